@@ -1,0 +1,4 @@
+pub mod FieldLemmas
+pub mod SameFields
+pub mod SegmentLemmas
+pub mod Tracing

@@ -1,0 +1,5 @@
+pub mod PieceBytes
+pub mod Rose
+pub mod Segment
+pub mod SuiteNumber
+pub mod Trace
