@@ -1,0 +1,3 @@
+pub mod Derive
+pub mod Hmac
+pub mod MacState
