@@ -1,0 +1,5 @@
+pub mod ChainLemmas
+pub mod DigestLemmas
+pub mod FormatLemmas
+pub mod TextLemmas
+pub mod UnforgedLemmas

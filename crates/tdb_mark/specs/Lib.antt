@@ -1,0 +1,5 @@
+pub mod CommitChain
+pub mod CommitFormat
+pub mod CommitText
+pub mod TextOfDigest
+pub mod Unforged
