@@ -1,0 +1,14 @@
+//! Why a node, a leader or a table could not be read.
+
+use thiserror::Error;
+
+/// A record of the map that wasn't read.
+#[derive(Clone, Copy, Debug, PartialEq, Eq, Error)]
+pub enum NodeError {
+    /// The bytes spell no value of the format.
+    #[error("the bytes are outside the format")]
+    Form,
+    /// Memory ran out. Only readers that take memory answer this.
+    #[error("memory ran out")]
+    Memory,
+}
