@@ -1,0 +1,2 @@
+pub mod EntrySpelling
+pub mod ListSpelling
