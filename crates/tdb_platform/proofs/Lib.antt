@@ -1,0 +1,4 @@
+pub mod Doing
+pub mod Logging
+pub mod Moments
+pub mod Overwriting

@@ -1,0 +1,11 @@
+pub mod CrashStates
+pub mod Device
+pub mod DeviceLaws
+pub mod Image
+pub mod ImageLaws
+pub mod Logs
+pub mod Memory
+pub mod Outside
+pub mod Plan
+pub mod Replay
+pub mod ReplayLaws
