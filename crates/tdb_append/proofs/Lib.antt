@@ -1,0 +1,3 @@
+mod Images
+mod Writing
+mod Advancing
