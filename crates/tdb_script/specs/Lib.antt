@@ -1,0 +1,4 @@
+pub mod LineSpelling
+pub mod LineValue
+pub mod NoteText
+pub mod ReplySpelling
