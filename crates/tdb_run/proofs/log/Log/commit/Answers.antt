@@ -1,0 +1,28 @@
+use Rattle.std.proofs.Common.{inl, ℕ, ◌+◌, List, [], ◌∷◌, sym, ◌∙◌, ap, subst, rules}
+use Rattle.tdb_append.specs.Placed.{Placed, placed}
+use Rattle.tdb_base.specs.declared.piece.Piece.{Piece}
+use Rattle.tdb_mark.specs.declared.commit.Commit.{Commit}
+use Rattle.tdb_run.specs.History.{Adds, History}
+use Rattle.tdb_run.specs.LaidOut.{in_pieces}
+use Rattle.tdb_run.proofs.Histories.{list_adds, none_added}
+use Rattle.tdb_run.proofs.log.Log.commit.Goals as goal
+
+pub returns-clause-history : goal.returns-clause-history
+returns-clause-history g c tells changes are =
+    let secret : List ℕ = c.args.self.now.keys in
+    let n : ℕ = c.args.self.now.head.count + 1 in
+    let commit : Commit = c.next-commit.result in
+    let next = c.next-commit.ensures in
+    let added : History = (n, changes) ∷ [] in
+    let digest = ap (λ (k : Commit). k.first.digest.0) next ∙ ap (λ (p : Piece). p.digest.0) c.in_ok-first.ensures.piece in
+    let adds = list_adds secret n c.args.batch.tail.0 (placed c.args.batch.pieces.items) commit c.args.entries.now c.in_ok-list.list.items changes
+    (ap (λ (k : Commit). k.kind) next) (ap (λ (k : Commit). k.count) next) (ap (λ (k : Commit). k.suite) next) (sym digest)
+    c.in_ok-list.ensures.sealed c.requires.values c.requires.list are in
+    c.put_batch.ensures.history tells (inl (c.requires.at_head tells)) added
+    (subst (λ (ps : List Placed). Adds (in_pieces ps) secret commit added) (sym c.in_ok-first.ensures.pieces) adds)
+
+pub returns-in_err-list-clause-history : goal.returns-in_err-list-clause-history
+returns-in_err-list-clause-history g c tells changes are = none_added _ _ _ c.from_residual.result c.from_residual.ensures.0
+
+pub returns-in_err-first-clause-history : goal.returns-in_err-first-clause-history
+returns-in_err-first-clause-history g c tells changes are = search (rules, none_added)

@@ -1,0 +1,21 @@
+use Rattle.std.proofs.Common.{◌≡◌, ◌-◌, ◌+◌, length}
+use Rattle.tdb_run.specs.LogState.{IsAtHead, MayCommit}
+use Rattle.tdb_run.specs.OneLine.{Keeps}
+use Rattle.tdb_run.specs.SealedOnly.{OnlySealed}
+use Rattle.tdb_run.specs.SessionState.{state_of}
+use Rattle.tdb_run.specs.Unread.{unread}
+use Rattle.tdb_run.proofs.Acknowledging.{ServingAll}
+use Rattle.tdb_run.proofs.serving.serve_lines.Given as goal
+
+abbrev pub invariant-answering : goal.invariant-answering
+invariant-answering g l = record {
+  all : ServingAll (g.S.Source.content l.fn.source) (g.S.Source.content l.source) (g.K.Sink.content l.fn.sink) (g.K.Sink.content l.sink) l.lines l.session l.fn.log.keys (g.P.Platform.outside l.fn.platform) (g.P.Platform.outside l.platform) l.fn.log.head.count l.log;
+  at_head : IsAtHead (g.P.Platform.outside l.platform) l.log;
+  room : MayCommit (state_of l.session) l.log;
+  keys : l.log.keys ≡ l.fn.log.keys;
+  sealed : OnlySealed l.fn.log.keys (g.P.Platform.outside l.fn.platform) (g.P.Platform.outside l.platform);
+  keeps : Keeps (g.S.Source.content l.fn.source) (g.S.Source.content l.source) (g.K.Sink.content l.fn.sink) (g.K.Sink.content l.sink) (g.P.Platform.outside l.fn.platform) (g.P.Platform.outside l.platform);
+}
+
+abbrev pub decreases-answering : goal.decreases-answering
+decreases-answering g l = 4294967296 - l.lines.taken + length (unread l.lines)

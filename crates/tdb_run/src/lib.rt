@@ -1,0 +1,27 @@
+//! Runs of the database: one call carries out a command over a device and an anchor.
+//!
+//! It stands on the log's formats, on `put` for each commit, and on the lines and replies of scripts. Its public call
+//! `run` carries the promises of the whole program: what each line is answered, what goes to the device, and why a run
+//! ends. A clause that is dropped here is promised by nothing else.
+#![tactic(auto)]
+
+mod batch;
+mod command;
+mod ended;
+mod keys;
+mod last_line;
+mod log;
+mod records;
+mod running;
+mod script_lines;
+mod serving;
+mod session;
+mod starting;
+mod status;
+mod taking;
+#[cfg(test)]
+mod tests;
+
+pub use ended::Ended;
+pub use running::run;
+pub use status::Status;

@@ -1,0 +1,96 @@
+//! One run: a command from its words to its last line.
+ghost use Rattle.std.specs.Prelude.{◌≡◌, ◌≢◌, ◌⊎◌, ◌↔◌, IsTrue};
+ghost use Rattle.tdb_run.specs.Acknowledged.{Acknowledged, Started};
+ghost use Rattle.tdb_run.specs.Command.{IsCommand, IsNoCommand, texts};
+ghost use Rattle.tdb_run.specs.OneLine.{Keeps};
+ghost use Rattle.tdb_run.specs.Replies.{Replies};
+ghost use Rattle.tdb_run.specs.SealedOnly.{OnlySealed};
+ghost use Rattle.tdb_run.specs.Served.{IsCaused, IsUnwritten, Served};
+ghost use Rattle.tdb_run.specs.declared.status.Status.TheVariants.{Usage, AnchorCount, PlatformFault, SinkFault};
+
+use crate::command::{Command, read_command};
+use crate::ended::Ended;
+use crate::last_line::put_last_line;
+use crate::starting::start;
+use crate::status::Status;
+use std::alloc::Global;
+use tdb_platform::Platform;
+use tdb_stream::{Archive, Sink, Source};
+
+/// Carries out the command that the words are, over a device and an anchor under a secret of 32 bytes.
+///
+/// A script is taken from the source, and every line goes to the sink.
+pub fn run<S: Source, K: Sink, P: Platform>(
+    alloc: Global,
+    words: &[&str],
+    source: &mut S,
+    sink: &mut K,
+    platform: P,
+    secret: &[u8; 32],
+    archives: Vec<Box<dyn Archive>>,
+) -> Ended<P>
+    // Words that are no command, and no others, are answered so, unless the sink fails.
+    ensures usage { result.status ≡ Usage → IsNoCommand (texts words.now) }
+    ensures usage_always { IsNoCommand (texts words.now) → (result.status ≡ Usage) ⊎ (result.status ≡ SinkFault) }
+
+    // A store isn't made twice: that needs an anchor whose count is 0.
+    ensures already { result.status ≡ AnchorCount → IsCommand (texts words.now) × (IsTrue (P.outside platform).tells → (P.outside platform).anchor.0 ≢ 0) }
+    ensures already_always { IsCommand (texts words.now) → IsTrue (P.outside platform).tells → (P.outside platform).anchor.0 ≢ 0
+        → (result.status ≡ AnchorCount) ⊎ (result.status ≡ PlatformFault) ⊎ (result.status ≡ SinkFault) }
+
+    // The lines taken are answered as a session answers them, and the sink holds the replies and the last line.
+    ensures replies { Replies (S.content source.old) (S.content source.new) (K.content sink.old) (K.content sink.new) result.status }
+
+    // A run that is refused leaves the device, the anchor and the source as they were.
+    ensures no_command { IsNoCommand (texts words.now) → (result.platform ≡ platform) × (source.new ≡ source.old) }
+    ensures already_untouched { IsCommand (texts words.now) → IsTrue (P.outside platform).tells → (P.outside platform).anchor.0 ≢ 0
+        → IsUnwritten (P.outside platform) (P.outside result.platform) × (source.new ≡ source.old) }
+
+    // Each commit whose reply was put stands in the history of the anchor, and at most one other commit behind them.
+    ensures acknowledged { Acknowledged (S.content source.old) (S.content source.new) (K.content sink.old) (K.content sink.new) secret.now (P.outside platform) (P.outside result.platform) result.status }
+
+    // Whatever goes to the device is a sealed record in a segment, or a commit text with its tag in a slot.
+    ensures sealed_only { OnlySealed secret.now (P.outside platform) (P.outside result.platform) }
+
+    // A fault is reported only where that object's count of faults rose.
+    ensures causes { IsCaused (S.content source.old) (S.content source.new) (K.content sink.old) (K.content sink.new) (P.outside platform) (P.outside result.platform) result.status }
+    ensures keeps { Keeps (S.content source.old) (S.content source.new) (K.content sink.old) (K.content sink.new) (P.outside platform) (P.outside result.platform) }
+    ensures archives { result.archives ≡ archives }
+{
+    let mut platform = platform;
+    let status = outcome(alloc, words, source, sink, &mut platform, secret);
+    let status = put_last_line(sink, status);
+    Ended {
+        status,
+        platform,
+        archives,
+    }
+}
+
+// Carries out the command up to its last line.
+fn outcome<S: Source, K: Sink, P: Platform>(
+    alloc: Global,
+    words: &[&str],
+    source: &mut S,
+    sink: &mut K,
+    platform: &mut P,
+    secret: &[u8; 32],
+) -> Status
+    ensures usage { (result ≡ Usage) ↔ IsNoCommand (texts words.now) }
+    ensures already { result ≡ AnchorCount → IsCommand (texts words.now) × (IsTrue (P.outside platform.old).tells → (P.outside platform.old).anchor.0 ≢ 0) }
+    ensures already_always { IsCommand (texts words.now) → IsTrue (P.outside platform.old).tells → (P.outside platform.old).anchor.0 ≢ 0
+        → (result ≡ AnchorCount) ⊎ (result ≡ PlatformFault) }
+    ensures no_command { IsNoCommand (texts words.now) → (platform.new ≡ platform.old) × (source.new ≡ source.old) }
+    ensures already_untouched { IsCommand (texts words.now) → IsTrue (P.outside platform.old).tells → (P.outside platform.old).anchor.0 ≢ 0
+        → IsUnwritten (P.outside platform.old) (P.outside platform.new) × (source.new ≡ source.old) }
+    ensures remembered { Started (S.content source.old) (S.content source.new) (K.content sink.old) (K.content sink.new) secret.now (P.outside platform.old) (P.outside platform.new) result }
+    ensures sealed { OnlySealed secret.now (P.outside platform.old) (P.outside platform.new) }
+    ensures served { Served (S.content source.old) (S.content source.new) (K.content sink.old) (K.content sink.new) result }
+    ensures causes { IsCaused (S.content source.old) (S.content source.new) (K.content sink.old) (K.content sink.new) (P.outside platform.old) (P.outside platform.new) result }
+    ensures keeps { Keeps (S.content source.old) (S.content source.new) (K.content sink.old) (K.content sink.new) (P.outside platform.old) (P.outside platform.new) }
+{
+    match read_command(words) {
+        None => Status::Usage,
+        Some(Command::Start(segments)) => start(alloc, source, sink, platform, secret, segments),
+    }
+}
