@@ -1,0 +1,11 @@
+pub mod CipherLaws
+pub mod Computed
+pub mod PreparedKeys
+pub mod Products
+pub mod SBox
+pub mod ScheduleLaws
+pub mod Sixteen
+pub mod StateLaws
+pub mod Sums
+pub mod TableLemmas
+pub mod WordBytes

@@ -1,0 +1,6 @@
+use Rattle.std.proofs.Common.{arith}
+use Rattle.tdb_aes.proofs.TableLemmas.{column_1-at}
+use Rattle.tdb_aes.proofs.columns.column_1.Goals as goal
+
+pub returns : goal.returns
+returns c = column_1-at c.args.byte (omega arith)

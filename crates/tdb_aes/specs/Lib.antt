@@ -1,0 +1,9 @@
+pub mod Cipher
+pub mod EquivalentInverse
+pub mod Field
+pub mod KeyExpansion
+pub mod MixColumns
+pub mod Schedule
+pub mod ShiftRows
+pub mod State
+pub mod SubBytes
