@@ -1,0 +1,5 @@
+pub mod Blocks
+pub mod Cbc
+pub mod LastBlock
+pub mod Padding
+pub mod Sealed
