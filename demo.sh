@@ -1,0 +1,96 @@
+#!/usr/bin/env bash
+# Makes a database on real files, commits one note to it, and checks every answer and place.
+#
+#   ./demo.sh            in a temporary folder, which is removed at the end
+#   ./demo.sh FOLDER     in that folder, which must not be there yet, and stays
+#
+# It needs the toolchain alone (the command rt). Only what is proved is built, so the first run on a
+# machine proves each crate, which takes some minutes. Later runs find the program built.
+set -eu
+
+fail() {
+    printf 'demo: %s\n' "$1" >&2
+    exit 1
+}
+
+# expect WHAT WANTED FOUND
+expect() {
+    [ "$2" = "$3" ] || fail "$1 should be: $2
+demo: but it is: $3"
+}
+
+# piece PLACE LENGTH: so many bytes of the device from a place on
+piece() {
+    tail -c "+$(($1 + 1))" device | head -c "$2"
+}
+
+here=$(cd "$(dirname "$0")" && pwd)
+tdb=$here/crates/tdb/out/tdb
+
+echo "== Proving and building the program"
+command -v rt >/dev/null || fail "the command rt isn't there: put the toolchain's bin on the PATH"
+# 'rt run' proves, builds and runs. Run without words, the program says 'usage': then it was built.
+log=$(mktemp)
+(cd "$here/crates/tdb" && rt run </dev/null) 2>&1 | tee "$log"
+grep -qx usage "$log" || fail "the program wasn't built"
+rm "$log"
+
+if [ $# -gt 0 ]; then
+    mkdir "$1"
+    cd "$1"
+else
+    folder=$(mktemp -d)
+    trap 'rm -rf "$folder"' EXIT
+    cd "$folder"
+fi
+
+echo "== An empty device, an empty anchor and a secret of 32 random bytes, in $PWD"
+: >device
+: >anchor
+head -c 32 /dev/urandom >secret
+printf '%s\n' 'begin 1' 'new 1 note hello' 'commit 1' 'quit' >script
+
+echo "== tdb device anchor secret start plain 16 <script"
+status=0
+"$tdb" device anchor secret start plain 16 <script >replies || status=$?
+paste -d '|' script replies | sed 's/|/   ->   /'
+echo "status $status"
+expect "the status" 0 "$status"
+expect "the replies" "begun 1
+made 1 1
+committed 1
+bye" "$(cat replies)"
+
+echo "== The anchor: the count of commit texts in 8 bytes, and the SHA-256 of the last text"
+od -An -v -tx1 anchor
+expect "the count" 0000000000000003 "$(od -An -v -tx1 -N8 anchor | tr -d ' \n')"
+expect "the mark" "$(piece 512 256 | sha256sum | head -c 64)" "$(od -An -v -tx1 -j8 anchor | tr -d ' \n')"
+
+echo "== The places that were written: place, length, first 8 bytes"
+while read -r place length magic what; do
+    printf '%8d %6d  %s  %s\n' "$place" "$length" "$magic" "$what"
+    expect "what stands at $place" "$magic" "$(piece "$place" 8)"
+    end=$((place + length))
+done <<'PLACES'
+0 256 TDBCMT01 text 1, the checkpoint that a new store begins with
+256 256 TDBCMT01 text 2, the commit that makes two partitions
+512 256 TDBCMT01 text 3, the commit of the note
+262144 576 TDBREC01 the segment table that text 1 names
+262720 208 TDBREC01 the change list that text 2 names
+262928 69 TDBREC01 the note, sealed
+262997 136 TDBREC01 the change list that text 3 names
+PLACES
+expect "the device's length" "$end" "$(($(wc -c <device)))"
+expect "the note" hello "$(piece 262992 5)"
+
+echo "== A store isn't made twice: the same words again"
+before=$(sha256sum device anchor)
+status=0
+line=$("$tdb" device anchor secret start plain 16 <script) || status=$?
+echo "$line"
+echo "status $status"
+expect "the last line" "already formatted" "$line"
+expect "the status" 3 "$status"
+expect "the files" "$before" "$(sha256sum device anchor)"
+
+echo "== All as it should be"
