@@ -1,0 +1,4 @@
+pub mod Placing
+pub mod PlacingLaws
+pub mod Ranges
+pub mod UsedWords
