@@ -1,0 +1,35 @@
+use Rattle.std.proofs.Common.{◌≡◌, Some, None, sym, ap, ◌∙◌}
+use Rattle.std.proofs.lemmas.Result.{on_ok_weaker}
+use Rattle.std.specs.BTreeMap as tree
+use Rattle.std.specs.Option.{option_copied_mut}
+use Rattle.std.specs.Ordering.{nat_cmp}
+use Rattle.tdb_model.specs.Apply.{with_chunk}
+use Rattle.tdb_model.proofs.StateLemmas.{changed, rewritten, absent, on_err_weaker}
+use Rattle.tdb_model.proofs.memory.MemoryState.write.Goals as goal
+use Rattle.tdb_model.proofs.memory.MemoryState.write.Goals.{in-Some, in-None}
+
+pub returns-clause-ok : goal.returns-clause-ok
+returns-clause-ok c =
+    let m = c.self.inside.partitions in
+    elim c.match-get_mut.branch [
+      | in-Some w ↦
+          let there : tree.get nat_cmp m c.args.part ≡ Some w.in-Some.partition.now = sym c.get_mut.ensures.value ∙ ap option_copied_mut w.in-Some.is in
+          rw (w.result-is, w.self-inside-is) (on_ok_weaker w.write.result
+          (changed m (c.get_mut.follows.lender w.write.new.self) c.args.self.now c.args.part w.in-Some.partition.now w.write.new.self (with_chunk c.args.rank c.args.bytes.items) c.self.view_is there (c.get_mut.follows.holds w.write.new.self))
+          w.write.ensures.ok)
+      | in-None w ↦
+          let there : tree.get nat_cmp m c.args.part ≡ None = sym c.get_mut.ensures.value ∙ ap option_copied_mut w.in-None.is in
+          rw (w.result-is, w.self-inside-is) (rw c.get_mut.follows.holds-at-none (absent m c.args.self.now c.args.part (with_chunk c.args.rank c.args.bytes.items) c.self.view_is there))
+    ]
+
+pub returns-clause-err : goal.returns-clause-err
+returns-clause-err c =
+    let m = c.self.inside.partitions in
+    elim c.match-get_mut.branch [
+      | in-Some w ↦
+          let there : tree.get nat_cmp m c.args.part ≡ Some w.in-Some.partition.now = sym c.get_mut.ensures.value ∙ ap option_copied_mut w.in-Some.is in
+          rw (w.result-is, w.self-inside-is) (on_err_weaker w.write.result
+          (rewritten m (c.get_mut.follows.lender w.write.new.self) c.args.self.now c.args.part w.in-Some.partition.now w.write.new.self c.self.view_is there (c.get_mut.follows.holds w.write.new.self))
+          w.write.ensures.err)
+      | in-None w ↦ rw w.result-is tt
+    ]
