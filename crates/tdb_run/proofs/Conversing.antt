@@ -2,6 +2,7 @@
 use Rattle.std.proofs.Common.{◌≡◌, ◌≢◌, inl, inr, ⊎_elim, ℕ, ◌+◌, ◌-◌, ◌<◌, ◌≤◌, IsTrue, List, [], ◌∷◌, ◌++◌, length, arith, sym, refl, ◌∙◌, ap, subst, append_assoc, append-nil, length-append, length-take, drop}
 use Rattle.std.proofs.lemmas.Grind.{flat_map-append}
 use Rattle.std.proofs.lemmas.List.Elements.{All-push}
+use Rattle.tdb_base.specs.Rose.{Rose}
 use Rattle.tdb_stream.specs.AddsPrefix.{AddsPrefix}
 use Rattle.tdb_stream.specs.SinkContent.{SinkContent}
 use Rattle.tdb_stream.specs.SourceContent.{SourceContent}
@@ -16,7 +17,7 @@ use Rattle.tdb_run.specs.LogState.{IsStopOfCommit}
 use Rattle.tdb_run.specs.OneLine.{Interrupted}
 use Rattle.tdb_run.specs.PutReply.{IsPutFor}
 use Rattle.tdb_run.specs.LastLine.{EndsWith}
-use Rattle.tdb_run.specs.Served.{Served, IsAtOnce, IsScriptStatus}
+use Rattle.tdb_run.specs.Served.{Served, IsAtOnce, IsCaused, IsScriptStatus}
 use Rattle.tdb_run.specs.StatusLine.{status_line}
 use Rattle.tdb_run.specs.Stopping.{AnswersNext, LeavesUnanswered, StopsFor}
 use Rattle.tdb_run.specs.Replies.{Conversation, NoBye, Replies, lines_text, replies_text}
@@ -82,6 +83,28 @@ stops_script came gone before after outside outside' old new first Usage (inl i)
 stops_script came gone before after outside outside' old new first Usage (inr i) = ⊎_elim (λ s. absurd s.1) (λ s. absurd s) i.2
 stops_script came gone before after outside outside' old new first AnchorCount (inl i) = absurd i.1.1
 stops_script came gone before after outside outside' old new first AnchorCount (inr i) = ⊎_elim (λ s. absurd s.1) (λ s. absurd s) i.2
+
+-- a count that rose later, rose since earlier
+rose_since : (a b c : ℕ) → a ≤ b → Rose b c → Rose a c
+rose_since a b c le (inl up) = inl (omega (arith, le, up))
+rose_since a b c le (inr end) = inr end
+
+-- a fault of the last line is one of the script
+pub caused_stopped : (came now gone : SourceContent) (before middle after : SinkContent) (old mid new : Outside) (lines rest : ScriptLines) (first : SessionValue) (status : Status)
+    → came.faults ≤ now.faults → before.faults ≤ middle.faults → old.faults ≤ mid.faults → Interrupted now gone middle after mid new lines rest first status → IsCaused came gone before after old new status
+caused_stopped came now gone before middle after old mid new lines rest first PlatformFault source sink platform (inl i) = absurd i.1.1
+caused_stopped came now gone before middle after old mid new lines rest first PlatformFault source sink platform (inr i) =
+    ⊎_elim (λ commit. rose_since old.faults mid.faults new.faults platform commit.1) (λ put. absurd put) i.2
+caused_stopped came now gone before middle after old mid new lines rest first SourceFault source sink platform (inl i) = rose_since came.faults now.faults gone.faults source i.1.1.1
+caused_stopped came now gone before middle after old mid new lines rest first SourceFault source sink platform (inr i) = ⊎_elim (λ commit. absurd commit.1) (λ put. absurd put) i.2
+caused_stopped came now gone before middle after old mid new lines rest first SinkFault source sink platform (inl i) = absurd i.1.1
+caused_stopped came now gone before middle after old mid new lines rest first SinkFault source sink platform (inr i) =
+    ⊎_elim (λ commit. absurd commit.1) (λ put. rose_since before.faults middle.faults after.faults sink put.1) i.2
+caused_stopped came now gone before middle after old mid new lines rest first Done source sink platform i = tt
+caused_stopped came now gone before middle after old mid new lines rest first Usage source sink platform i = tt
+caused_stopped came now gone before middle after old mid new lines rest first AnchorCount source sink platform i = tt
+caused_stopped came now gone before middle after old mid new lines rest first Memory source sink platform i = tt
+caused_stopped came now gone before middle after old mid new lines rest first End source sink platform i = tt
 
 -- the lines so far were answered, and each reply put
 pub record Serving (came now : SourceContent) (before after : SinkContent) (lines : ScriptLines) (session : SessionValue) : Type 0 where

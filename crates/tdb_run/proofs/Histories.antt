@@ -1,9 +1,7 @@
 -- A history stays as more is written, and a put of a batch and a text makes it longer.
-use Rattle.std.proofs.Common.{◌≡◌, ◌⊎◌, inl, inr, ⊎_elim, ◌+◌, ℕ, List, [], ◌∷◌, ◌++◌, Option, Some, Bool, true, Result, Ok, IsErr, cond, ◌&&◌, ◌==◌, replicate, refl, sym, ◌∙◌, ap, subst, append-nil, append_assoc, add-one}
-use Rattle.std.specs.Prelude.{is_err}
+use Rattle.std.proofs.Common.{◌≡◌, ◌⊎◌, inl, inr, ◌+◌, ℕ, List, [], ◌∷◌, ◌++◌, Option, Some, Bool, true, cond, ◌&&◌, ◌==◌, replicate, refl, sym, ◌∙◌, ap, subst, append-nil, append_assoc, add-one}
 use Rattle.std.specs.List.{AllByRecursion}
 use Rattle.std.specs.Str.{bytes_eq}
-use Rattle.std.proofs.lemmas.Bool.{false≢true}
 use Rattle.std.proofs.lemmas.Bool.Decides.{eqb_tells}
 use Rattle.std.proofs.lemmas.Slice.Eq.{bytes_eq-Decides}
 use Rattle.sha2.specs.Sha256.{sha256}
@@ -27,10 +25,17 @@ use Rattle.tdb_mark.proofs.ChainLemmas.{commit_chain-stays, commit_chain-longer}
 use Rattle.tdb_platform.specs.Outside.{Anchor, Outside}
 use Rattle.tdb_seal.specs.SealedRecord.{IsSealedRecord}
 use Rattle.tdb_run.specs.Keys.{partition_key, system_key}
-use Rattle.tdb_run.specs.Records.{list_name, note_name, make_entry, note_entry}
-use Rattle.tdb_run.specs.Change.{Change, write, free, make, copy, drop}
+use Rattle.tdb_node.specs.declared.table.Table.{Table}
+use Rattle.tdb_node.specs.SegmentTable.{IsTable, table_bytes}
+use Rattle.tdb_run.specs.Records.{list_name, note_name, table_name, make_entry, note_entry}
+use Rattle.tdb_model.specs.declared.change.Change.{Change}
+use Rattle.tdb_model.specs.declared.change.Change.TheVariants.{Write, Free, Make, Copy, Drop}
+use Rattle.tdb_model.specs.Apply.{History}
+use Rattle.tdb_model.specs.Opening.{opening_changes}
+use Rattle.tdb_script.specs.NoteText.{stored_note_bytes}
+use Rattle.tdb_run.specs.Session.{write_of_note}
 use Rattle.tdb_run.specs.LaidOut.{IsOneOf, in_pieces}
-use Rattle.tdb_run.specs.History.{History, Finds, in_trace, IsWritten, IsChangeOf, AreChangesOf, Adds, IsHistoryOf, IsHistory, Added}
+use Rattle.tdb_run.specs.History.{Finds, in_trace, IsWritten, IsChangeOf, AreChangesOf, Adds, HasTable, IsHistoryOf, IsHistory, Store}
 
 -- what one finding finds, another one finds too
 abbrev Finer : Finds → Finds → Type 0
@@ -38,13 +43,13 @@ Finer f g = (digest bytes : List ℕ) → f digest bytes → g digest bytes
 
 module _ (f g : Finds) (finer : Finer f g) (secret : List ℕ) where
   change_stays : (e : Entry) (change : Change) → IsChangeOf f secret e change → IsChangeOf g secret e change
-  change_stays e (write part rank bytes) is =
+  change_stays e (Write part rank bytes) is =
       let w = is.3 in
       (is.0, is.1, is.2, record { suite = w.suite; numbered = w.numbered; sealed = w.sealed; found = finer e.piece.digest.0 w.sealed w.found; opened = w.opened })
-  change_stays e (free part rank) is = is
-  change_stays e (make part suite) is = is
-  change_stays e (copy from to) is = is
-  change_stays e (drop part) is = is
+  change_stays e (Free part rank) is = is
+  change_stays e (Make part suite) is = is
+  change_stays e (Copy from to) is = is
+  change_stays e (Drop part) is = is
 
   pub changes_stay : (entries : List Entry) (changes : List Change) → AreChangesOf f secret entries changes → AreChangesOf g secret entries changes
   changes_stay [] [] are = tt
@@ -53,7 +58,13 @@ module _ (f g : Finds) (finer : Finer f g) (secret : List ℕ) where
   changes_stay (e ∷ entries) [] are = absurd are
 
   adds_stays : (c : Commit) (added : History) → Adds f secret c added → Adds g secret c added
-  adds_stays c added (inl checkpoint) = inl checkpoint
+  adds_stays c added (inl checkpoint) =
+      let h = checkpoint.1 in
+      inl (
+        checkpoint.0,
+        record { sealed = h.sealed; table = h.table; found = finer c.first.digest.0 h.sealed h.found; opened = h.opened; is_table = h.is_table; segments = h.segments },
+        checkpoint.2,
+      )
   adds_stays c added (inr commit) =
       let h = commit.1.1 in
       inr (
@@ -73,23 +84,23 @@ module _ (f g : Finds) (finer : Finer f g) (secret : List ℕ) where
         ),
       )
 
-  chain_stays : (chain : List Commit) (history : History) → IsHistoryOf f secret chain history → IsHistoryOf g secret chain history
-  chain_stays [] history is = is
-  chain_stays (c ∷ chain) history is = (is.0, is.1, adds_stays c is.0 is.2, chain_stays chain is.1 is.3, is.4)
+chain_stays : (f g : Finds) (finer : Finer f g) (store : Store) (chain : List Commit) (history : History) → IsHistoryOf f store chain history → IsHistoryOf g store chain history
+chain_stays f g finer store [] history is = is
+chain_stays f g finer store (c ∷ chain) history is = (is.0, is.1, adds_stays f g finer store.secret c is.0 is.2, chain_stays f g finer store chain is.1 is.3, is.4, is.5)
 
-chain_longer : (f : Finds) (secret : List ℕ) (chain : List Commit) (c : Commit) (history added : History) → IsHistoryOf f secret chain history → Adds f secret c added
-    → IsHistoryOf f secret (chain ++ c ∷ []) (history ++ added)
-chain_longer f secret [] c history added is adds = (added, [], adds, refl, ap (λ (h : History). h ++ added) is ∙ sym (append-nil added))
-chain_longer f secret (d ∷ chain) c history added is adds =
-    (is.0, is.1 ++ added, is.2, chain_longer f secret chain c is.1 added is.3 adds, ap (λ (h : History). h ++ added) is.4 ∙ append_assoc is.0 is.1 added)
+chain_longer : (f : Finds) (store : Store) (chain : List Commit) (c : Commit) (history added : History) → IsHistoryOf f store chain history → Adds f store.secret c added → c.segments ≡ store.segments
+    → IsHistoryOf f store (chain ++ c ∷ []) (history ++ added)
+chain_longer f store [] c history added is adds sized = (added, [], adds, refl, ap (λ (h : History). h ++ added) is ∙ sym (append-nil added), sized)
+chain_longer f store (d ∷ chain) c history added is adds sized =
+    (is.0, is.1 ++ added, is.2, chain_longer f store chain c is.1 added is.3 adds sized, ap (λ (h : History). h ++ added) is.4 ∙ append_assoc is.0 is.1 added, is.5)
 
 -- The history of an anchor stays as more is written.
-pub history_stays : (written more : List WrittenPiece) (secret : List ℕ) (anchor : Anchor) (history : History) → IsHistory written secret anchor history
-    → IsHistory (written ++ more) secret anchor history
-history_stays written more secret anchor history is = record {
+pub history_stays : (written more : List WrittenPiece) (store : Store) (anchor : Anchor) (history : History) → IsHistory written store anchor history
+    → IsHistory (written ++ more) store anchor history
+history_stays written more store anchor history is = record {
   chain = is.chain;
-  ends = commit_chain-stays written more (commit_of (commit_key_of secret)) anchor.0 anchor.1 is.chain is.ends;
-  tells = chain_stays (in_trace written) (in_trace (written ++ more)) (λ digest bytes found. text_of_digest-stays written more digest bytes found) secret is.chain history is.tells;
+  ends = commit_chain-stays written more (commit_of (commit_key_of store.secret)) anchor.0 anchor.1 is.chain is.ends;
+  tells = chain_stays (in_trace written) (in_trace (written ++ more)) (λ digest bytes found. text_of_digest-stays written more digest bytes found) store is.chain history is.tells;
 }
 
 pub grows_all : (t : Trace) (ps : List Placed) → Extends t (with_all_written t ps)
@@ -127,20 +138,20 @@ is_found t grammar p unforged written =
     subst (λ (q : List ℕ). text_of_digest t.written (sha256 p) ≡ Some q) is found.1
 
 -- A put of pieces and of the next text makes the history longer by what the text adds.
-module _ (secret : List ℕ) (t u : Trace) (n : ℕ) (mark text : List ℕ) (ps : List Placed) (c : Commit) where
-  pub history_longer : (added before : History) → commit_of (commit_key_of secret) text ≡ Some c → c.prev.0 ≡ mark → follows n c ≡ true → Adds (in_pieces ps) secret c added
-      → u ≡ with_all_written t (ps ++ record { place = slot_place (n + 1); bytes = text } ∷ []) → IsUnforged u (commit_of (commit_key_of secret))
-      → IsHistory t.written secret (n, mark) before → IsHistory u.written secret (n + 1, sha256 text) (before ++ added)
-  history_longer added before reads prev next adds wrote unforged is =
-      let grammar : List ℕ → Option Commit = commit_of (commit_key_of secret) in
+module _ (store : Store) (t u : Trace) (n : ℕ) (mark text : List ℕ) (ps : List Placed) (c : Commit) where
+  pub history_longer : (added before : History) → commit_of (commit_key_of store.secret) text ≡ Some c → c.prev.0 ≡ mark → follows n c ≡ true → Adds (in_pieces ps) store.secret c added → c.segments ≡ store.segments
+      → u ≡ with_all_written t (ps ++ record { place = slot_place (n + 1); bytes = text } ∷ []) → IsUnforged u (commit_of (commit_key_of store.secret))
+      → IsHistory t.written store (n, mark) before → IsHistory u.written store (n + 1, sha256 text) (before ++ added)
+  history_longer added before reads prev next adds sized wrote unforged is =
+      let grammar : List ℕ → Option Commit = commit_of (commit_key_of store.secret) in
       let slot : Placed = record { place = slot_place (n + 1); bytes = text } in
       let mid : Trace = with_all_written t ps in
       let last : u ≡ with_written mid slot.place text = wrote ∙ with_all_written-push t ps slot in
       let mid_to_u : Extends mid u = subst (Extends mid) (sym last) (extends_written mid slot.place text) in
       let all : Extends t u = subst (Extends t) (sym wrote) (grows_all t (ps ++ slot ∷ [])) in
       let text_written : WasWritten u.written text = subst (λ (v : Trace). WasWritten v.written text) (sym last) (WasWritten-last mid.written _) in
-      let stays : IsHistory u.written secret (n, mark) before =
-      subst (λ (ws : List WrittenPiece). IsHistory ws secret (n, mark) before) (sym all.written) (history_stays t.written all.more_written secret (n, mark) before is) in
+      let stays : IsHistory u.written store (n, mark) before =
+      subst (λ (ws : List WrittenPiece). IsHistory ws store (n, mark) before) (sym all.written) (history_stays t.written all.more_written store (n, mark) before is) in
       let finer : Finer (in_pieces ps) (in_trace u.written) =
       λ digest bytes found. subst (λ (d : List ℕ). text_of_digest u.written d ≡ Some bytes) found.0
       (is_found u grammar bytes unforged (was_written_later mid u bytes mid_to_u (each_was_written t ps bytes found.1))) in
@@ -149,12 +160,8 @@ module _ (secret : List ℕ) (t u : Trace) (n : ℕ) (mark text : List ℕ) (ps 
         ends =
             subst (λ (k : ℕ). commit_chain u.written grammar k (sha256 text) ≡ Some (stays.chain ++ c ∷ [])) (sym (add-one n))
             (commit_chain-longer u.written grammar n mark text c stays.chain (is_found u grammar text unforged text_written) reads prev next stays.ends);
-        tells = chain_longer (in_trace u.written) secret stays.chain c before added stays.tells (adds_stays (in_pieces ps) (in_trace u.written) finer secret c added adds);
+        tells = chain_longer (in_trace u.written) store stays.chain c before added stays.tells (adds_stays (in_pieces ps) (in_trace u.written) finer store.secret c added adds) sized;
       }
-
--- nothing was done
-pub none_added : {T E : Type 0} (secret : List ℕ) (o : Outside) (added : History) (r : Result T E) → IsErr r → Added secret o o added r
-none_added secret o added r err = record { grows = extends_itself o.trace; history = λ unforged before is. inr (err, is) }
 
 follows_is : (n : ℕ) (c : Commit) → c.count ≡ n + 1 → (n ≡ 0 → c.prev.0 ≡ replicate 32 0) → follows n c ≡ true
 follows_is n c count start =
@@ -167,50 +174,39 @@ follows_is n c count start =
     ap (λ (b : Bool). b && cond (n == 0) (bytes_eq c.prev.0 (replicate 32 0)) true) counted ∙ begins
 
 -- At count 0 the mark doesn't matter.
-head_history : (written : List WrittenPiece) (secret : List ℕ) (anchor : Anchor) (n : ℕ) (mark : List ℕ) (before : History) → anchor.0 ≡ n → (anchor ≡ (n, mark)) ⊎ (n ≡ 0)
-    → IsHistory written secret anchor before → IsHistory written secret (n, mark) before
-head_history written secret anchor n mark before count (inl at) is = subst (λ (a : Anchor). IsHistory written secret a before) at is
-head_history written secret anchor n mark before count (inr start) is =
-    let grammar : List ℕ → Option Commit = commit_of (commit_key_of secret) in
+head_history : (written : List WrittenPiece) (store : Store) (anchor : Anchor) (n : ℕ) (mark : List ℕ) (before : History) → anchor.0 ≡ n → (anchor ≡ (n, mark)) ⊎ (n ≡ 0)
+    → IsHistory written store anchor before → IsHistory written store (n, mark) before
+head_history written store anchor n mark before count (inl at) is = subst (λ (a : Anchor). IsHistory written store a before) at is
+head_history written store anchor n mark before count (inr start) is =
+    let grammar : List ℕ → Option Commit = commit_of (commit_key_of store.secret) in
     let first : commit_chain written grammar 0 mark ≡ Some is.chain = subst (λ (k : ℕ). commit_chain written grammar k anchor.1 ≡ Some is.chain) (count ∙ start) is.ends in
     record { chain = is.chain; ends = subst (λ (k : ℕ). commit_chain written grammar k mark ≡ Some is.chain) (sym start) first; tells = is.tells }
 
-module _ (secret : List ℕ) (old new : Outside) (n : ℕ) (mark text : List ℕ) (ps done rest : List Placed) (c : Commit) where
+module _ (store : Store) (old new : Outside) (n : ℕ) (mark text : List ℕ) (ps done rest : List Placed) (c : Commit) where
   -- The anchor went on to the text.
-  pub put_adds : (added : History) → commit_of (commit_key_of secret) text ≡ Some c → c.count ≡ n + 1 → c.prev.0 ≡ mark → (n ≡ 0 → mark ≡ replicate 32 0)
-      → Adds (in_pieces ps) secret c added → ps ++ record { place = slot_place (n + 1); bytes = text } ∷ [] ≡ done ++ rest → new.trace ≡ with_all_written old.trace done
-      → old.anchor.0 ≡ n → (old.anchor ≡ (n, mark)) ⊎ (n ≡ 0) → rest ≡ [] → new.anchor ≡ (n + 1, sha256 text) → IsUnforged new.trace (commit_of (commit_key_of secret))
-      → (before : History) → IsHistory old.trace.written secret old.anchor before → IsHistory new.trace.written secret new.anchor (before ++ added)
-  put_adds added reads count prev start adds in_order wrote at_count at complete advanced unforged before is =
+  pub put_adds : (added : History) (a : Anchor) → commit_of (commit_key_of store.secret) text ≡ Some c → c.count ≡ n + 1 → c.prev.0 ≡ mark → (n ≡ 0 → mark ≡ replicate 32 0)
+      → Adds (in_pieces ps) store.secret c added → c.segments ≡ store.segments → ps ++ record { place = slot_place (n + 1); bytes = text } ∷ [] ≡ done ++ rest → new.trace ≡ with_all_written old.trace done
+      → old.anchor.0 ≡ n → (old.anchor ≡ (n, mark)) ⊎ (n ≡ 0) → rest ≡ [] → a ≡ (n + 1, sha256 text) → IsUnforged new.trace (commit_of (commit_key_of store.secret))
+      → (before : History) → IsHistory old.trace.written store old.anchor before → IsHistory new.trace.written store a (before ++ added)
+  put_adds added a reads count prev start adds sized in_order wrote at_count at complete advanced unforged before is =
       let slot : Placed = record { place = slot_place (n + 1); bytes = text } in
       let all : ps ++ slot ∷ [] ≡ done = in_order ∙ ap (λ (l : List Placed). done ++ l) complete ∙ append-nil done in
       let next : follows n c ≡ true = follows_is n c count (λ zero. prev ∙ start zero) in
-      subst (λ (a : Anchor). IsHistory new.trace.written secret a (before ++ added)) (sym advanced)
-      (history_longer secret old.trace new.trace n mark text ps c added before reads prev next adds (wrote ∙ ap (with_all_written old.trace) (sym all)) unforged
-      (head_history old.trace.written secret old.anchor n mark before at_count at is))
+      subst (λ (b : Anchor). IsHistory new.trace.written store b (before ++ added)) (sym advanced)
+      (history_longer store old.trace new.trace n mark text ps c added before reads prev next adds sized (wrote ∙ ap (with_all_written old.trace) (sym all)) unforged
+      (head_history old.trace.written store old.anchor n mark before at_count at is))
 
   -- The anchor is the old one.
-  pub put_stays : new.trace ≡ with_all_written old.trace done → new.anchor ≡ old.anchor
-      → (before : History) → IsHistory old.trace.written secret old.anchor before → IsHistory new.trace.written secret new.anchor before
-  put_stays wrote same before is =
+  pub put_stays : (a : Anchor) → new.trace ≡ with_all_written old.trace done → a ≡ old.anchor
+      → (before : History) → IsHistory old.trace.written store old.anchor before → IsHistory new.trace.written store a (before ++ [])
+  put_stays a wrote same before is =
       let all : Extends old.trace new.trace = subst (Extends old.trace) (sym wrote) (grows_all old.trace done) in
-      subst (λ (a : Anchor). IsHistory new.trace.written secret a before) (sym same)
-      (subst (λ (ws : List WrittenPiece). IsHistory ws secret old.anchor before) (sym all.written) (history_stays old.trace.written all.more_written secret old.anchor before is))
+      subst (λ (b : Anchor). IsHistory new.trace.written store b (before ++ [])) (sym same)
+      (subst (λ (ws : List WrittenPiece). IsHistory ws store old.anchor (before ++ [])) (sym all.written)
+      (history_stays old.trace.written all.more_written store old.anchor (before ++ []) (subst (IsHistory old.trace.written store old.anchor) (sym (append-nil before)) is)))
 
   pub put_grows : new.trace ≡ with_all_written old.trace done → Extends old.trace new.trace
   put_grows wrote = subst (Extends old.trace) (sym wrote) (grows_all old.trace done)
-
-pub added_ok : {T E V F : Type 0} (secret : List ℕ) (old new : Outside) (added : History) (r : Result T E) (x : T) (s : Result V F) → r ≡ Ok x → Added secret old new added r → Added secret old new added s
-added_ok secret old new added r x s is a = record {
-  grows = a.grows;
-  history = λ unforged before was. ⊎_elim (λ longer. inl longer) (λ err. absurd (false≢true (ap is_err (sym is) ∙ err.0))) (a.history unforged before was);
-}
-
-pub added_err : {T E V F : Type 0} (secret : List ℕ) (old new : Outside) (added : History) (r : Result T E) (s : Result V F) → IsErr s → Added secret old new added r → Added secret old new added s
-added_err secret old new added r s err a = record {
-  grows = a.grows;
-  history = λ unforged before was. ⊎_elim (λ longer. inl longer) (λ failed. inr (err, failed.1)) (a.history unforged before was);
-}
 
 one_of_last : (ps : List Placed) (p : Placed) → IsOneOf (ps ++ p ∷ []) p.bytes
 one_of_last [] p = inl refl
@@ -246,13 +242,30 @@ list_adds secret n place ps c entries sealed changes kind count suite digest ope
       ),
     )
 
-pub note_changes : (secret : List ℕ) (place : ℕ) (ps : List Placed) (piece : Piece) (sealed plain : List ℕ) → sha256 sealed ≡ piece.digest.0
-    → IsSealedRecord (partition_key secret 1 2) note_name plain sealed
-    → AreChangesOf (in_pieces (ps ++ record { place = place; bytes = sealed } ∷ [])) secret (note_entry piece ∷ []) (write 1 1 plain ∷ [])
-note_changes secret place ps piece sealed plain digest opened =
+pub note_changes : (secret : List ℕ) (place : ℕ) (ps : List Placed) (piece : Piece) (sealed text : List ℕ) → sha256 sealed ≡ piece.digest.0
+    → IsSealedRecord (partition_key secret 1 2) note_name (stored_note_bytes text) sealed
+    → AreChangesOf (in_pieces (ps ++ record { place = place; bytes = sealed } ∷ [])) secret (note_entry piece ∷ []) (write_of_note text ∷ [])
+note_changes secret place ps piece sealed text digest opened =
     let p : Placed = record { place = place; bytes = sealed } in
-    let written : IsWritten (in_pieces (ps ++ p ∷ [])) secret (note_entry piece) plain = record { suite = Plain; numbered = refl; sealed = sealed; found = (digest, one_of_last ps p); opened = opened } in
+    let written : IsWritten (in_pieces (ps ++ p ∷ [])) secret (note_entry piece) (stored_note_bytes text) =
+    record { suite = Plain; numbered = refl; sealed = sealed; found = (digest, one_of_last ps p); opened = opened } in
     ((refl, refl, refl, written), tt)
 
-pub makes_changes : (f : Finds) (secret : List ℕ) → AreChangesOf f secret (make_entry 1 ∷ make_entry 2 ∷ []) (make 1 0 ∷ make 2 0 ∷ [])
+pub makes_changes : (f : Finds) (secret : List ℕ) → AreChangesOf f secret (make_entry 1 ∷ make_entry 2 ∷ []) (opening_changes Plain)
 makes_changes f secret = ((refl, refl, refl), ((refl, refl, refl), tt))
+
+-- A table behind no other record is the one that a checkpoint names.
+pub table_adds : (secret : List ℕ) (place : ℕ) (ps : List Placed) (c : Commit) (table : Table) (sealed : List ℕ) → c.kind ≡ 2 → c.suite ≡ Plain → sha256 sealed ≡ c.first.digest.0
+    → IsSealedRecord (system_key secret) table_name (table_bytes table) sealed → IsTable table → table.segments ≡ c.segments
+    → Adds (in_pieces (ps ++ record { place = place; bytes = sealed } ∷ [])) secret c []
+table_adds secret place ps c table sealed kind suite digest opened is_table segments =
+    let p : Placed = record { place = place; bytes = sealed } in
+    let named : HasTable (in_pieces (ps ++ p ∷ [])) secret c = record {
+      sealed = sealed;
+      table = table;
+      found = (digest, one_of_last ps p);
+      opened = subst (λ (s : Suite). IsSealedRecord (system_key secret) (record { kind = 4; suite = s; home = 0; rank = 0 }) (table_bytes table) sealed) (sym suite) opened;
+      is_table = is_table;
+      segments = segments;
+    } in
+    inl (kind, named, refl)

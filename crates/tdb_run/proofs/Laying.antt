@@ -1,5 +1,5 @@
 -- Records that are laid one behind another, and what a put of them hands to the device.
-use Rattle.std.proofs.Common.{◌≡◌, inl, inr, ◌+◌, ◌≤◌, ◌%◌, ℕ, List, [], ◌∷◌, ◌++◌, length, get_or, refl, sym, ◌∙◌, ap, arith, subst}
+use Rattle.std.proofs.Common.{◌≡◌, inl, inr, ◌+◌, ◌≤◌, ℕ, List, [], ◌∷◌, ◌++◌, length, get_or, refl, sym, ◌∙◌, ap, arith, subst}
 use Rattle.std.specs.Prelude.{All, AllPairs}
 use Rattle.std.proofs.lemmas.Bool.{cases_lt}
 use Rattle.std.proofs.lemmas.List.{length-append, length_push, get_or_append_left, get_or_at, append-nil, append_assoc}
@@ -8,7 +8,7 @@ use Rattle.tdb_base.specs.Trace.{Trace, WrittenPiece, with_written, calls_in}
 use Rattle.tdb_append.specs.Placed.{Placed, FitsOneSegment, IsApart, with_all_written}
 use Rattle.tdb_append.specs.Put.{slot_place}
 use Rattle.tdb_run.specs.LaidOut.{LaidOut}
-use Rattle.tdb_run.specs.SealedOnly.{IsRecord, IsText, IsSealedPiece, WritesOnlySealed}
+use Rattle.tdb_run.specs.SealedOnly.{IsRecord, IsTextInSlot, IsSealedPiece, WritesOnlySealed}
 
 all_pairs_push : {X : Type 0} (R : X → X → Type 0) (xs : List X) (x : X) → AllPairs R xs → All (λ y. R y x) xs → AllPairs R (xs ++ x ∷ [])
 all_pairs_push {X} R xs x pairs last i j d before within =
@@ -72,12 +72,12 @@ sealed_all secret t (p ∷ ps) all =
     (sealed_all secret next ps (All-tail (λ (q : Placed). IsSealedPiece secret q.place q.bytes) p ps all))
 
 -- Of the records of a batch and a text in its slot, a front was written.
-pub put_sealed : (secret : List ℕ) (tail count : ℕ) (ps done rest : List Placed) (text : List ℕ) (t u : Trace) → LaidOut secret tail ps → IsText secret text
+pub put_sealed : (secret : List ℕ) (tail count : ℕ) (ps done rest : List Placed) (text : List ℕ) (t u : Trace) → LaidOut secret tail ps → IsTextInSlot secret (slot_place (count + 1)) text
     → ps ++ record { place = slot_place (count + 1); bytes = text } ∷ [] ≡ done ++ rest → u ≡ with_all_written t done → WritesOnlySealed secret t u
 put_sealed secret tail count ps done rest text t u laid is in_order wrote =
     let P : Placed → Type 0 = λ p. IsSealedPiece secret p.place p.bytes in
     let slot : Placed = record { place = slot_place (count + 1); bytes = text } in
-    let in_slot : IsSealedPiece secret slot.place slot.bytes = inr (is, ((count % 1024, omega arith, omega arith))) in
+    let in_slot : IsSealedPiece secret slot.place slot.bytes = inr is in
     let all : All P (ps ++ slot ∷ []) = All-push P ps slot (λ k d within. inl (laid.sealed k d within, laid.in_segments k d within)) in_slot in
     let front : All P done = λ k d within.
     subst P (get_or_append_left done rest d k within) (subst (All P) in_order all k d (omega (arith, length-append done rest, within))) in

@@ -1,5 +1,6 @@
 pub mod Acknowledging
 pub mod Conversing
+pub mod Growing
 pub mod Histories
 pub mod Laying
 pub mod Remembering

@@ -8,15 +8,10 @@ use Rattle.tdb_base.specs.Segment.{LiesInOneSegment}
 use Rattle.tdb_base.specs.declared.suite.Suite.TheVariants.{Plain}
 use Rattle.tdb_list.specs.ChangeList.{IsList}
 use Rattle.tdb_list.specs.Entry.{IsEntry, IsMake, IsNoPiece, IsWrite}
-use Rattle.tdb_node.specs.declared.table.Table.{Table}
 use Rattle.tdb_node.specs.SegmentTable.{IsUsed, IsTable, IsTableValue}
 use Rattle.tdb_script.specs.NoteText.{stored_note_bytes}
 use Rattle.tdb_seal.specs.SealedRecord.{plain_record, IsSealedRecord}
-use Rattle.tdb_run.specs.Records.{make_entry, note_entry, nowhere}
-
--- the table of which only the first segment is used
-abbrev pub only_first : ℕ → Table
-only_first segments = record { segments = segments; used = 1 ∷ replicate 63 0 }
+use Rattle.tdb_run.specs.Records.{first_table_of, make_entry, note_entry, nowhere}
 
 zeros : (n k : ℕ) → ◌≡◌ {A = ℕ} (get_or (replicate n 0) k 0) 0
 zeros zero k = refl
@@ -29,20 +24,20 @@ set_bit (suc w) i set =
     let clear : bit_at 0 i ≡ 1 = subst (λ (word : ℕ). bit_at word i ≡ 1) (zeros 63 w) set in
     absurd (omega (arith, clear, bit_at-zero i))
 
-pub used_is_first : (segments s : ℕ) → IsUsed (only_first segments) s → s ≡ 0
+pub used_is_first : (segments s : ℕ) → IsUsed (first_table_of segments) s → s ≡ 0
 used_is_first segments s set = let both = set_bit (s / 64) (s % 64) set in omega (arith, both.0, both.1)
 
-pub first_is_used : (segments s : ℕ) → s ≡ 0 → IsUsed (only_first segments) s
-first_is_used segments s is = subst (IsUsed (only_first segments)) (sym is) refl
+pub first_is_used : (segments s : ℕ) → s ≡ 0 → IsUsed (first_table_of segments) s
+first_is_used segments s is = subst (IsUsed (first_table_of segments)) (sym is) refl
 
-pub only_first_is_table : (segments : ℕ) → 16 ≤ segments → segments ≤ 4096 → IsTable (only_first segments)
+pub only_first_is_table : (segments : ℕ) → 16 ≤ segments → segments ≤ 4096 → IsTable (first_table_of segments)
 only_first_is_table segments least most = record { least = least; most = most; used = λ s set. omega (arith, least, used_is_first segments s set) }
 
 word_fits : (k : ℕ) → get_or (1 ∷ replicate 63 0) k 0 < 2 ^ 64
 word_fits zero = omega arith
 word_fits (suc k) = subst (λ (word : ℕ). word < 2 ^ 64) (sym (zeros 63 k)) (omega arith)
 
-pub only_first_is_value : (segments : ℕ) → IsTableValue (only_first segments)
+pub only_first_is_value : (segments : ℕ) → IsTableValue (first_table_of segments)
 only_first_is_value segments = record { words = refl; word = word_fits }
 
 pub plain_sealed : (kind home rank : ℕ) (key plain given bytes : List ℕ) → length plain ≤ 1048576 → given ≡ plain

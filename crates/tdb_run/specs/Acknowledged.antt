@@ -1,15 +1,22 @@
 -- The commits that a run has answered stand in the history of its anchor.
-use Rattle.std.specs.Prelude.{◌≡◌, ◌⊎◌, ◌+◌, ◌≤◌, ℕ, List, [], ◌∷◌, ◌++◌, IsTrue, length}
+use Rattle.std.specs.Prelude.{◌≡◌, ◌⊎◌, ◌+◌, ℕ, List, [], ◌∷◌, ◌++◌, IsTrue, length}
 use Rattle.tdb_platform.specs.Outside.{Outside}
+use Rattle.tdb_platform.specs.CrashStates.{CrashStates}
 use Rattle.tdb_stream.specs.SinkContent.{SinkContent}
 use Rattle.tdb_stream.specs.SourceContent.{SourceContent}
+use Rattle.tdb_script.specs.ReplySpelling.{reply_spelling}
 use Rattle.tdb_script.specs.declared.reply.Reply.{Reply}
-use Rattle.tdb_run.specs.Change.{Change}
-use Rattle.tdb_run.specs.History.{History, Remembers, opening}
-use Rattle.tdb_run.specs.OneLine.{HasReplied}
-use Rattle.tdb_run.specs.Replies.{Replies}
+use Rattle.tdb_model.specs.declared.change.Change.{Change}
+use Rattle.tdb_model.specs.Apply.{History}
+use Rattle.tdb_run.specs.Growth.{Remembers, RunRemembers}
+use Rattle.tdb_run.specs.History.{Store, opening}
+use Rattle.tdb_run.specs.LogState.{store_of}
+use Rattle.tdb_run.specs.OneLine.{HasReplied, IsUnfinished}
+use Rattle.tdb_run.specs.Replies.{Conversation, Replies}
 use Rattle.tdb_run.specs.Served.{Served}
-use Rattle.tdb_run.specs.Session.{Answer}
+use Rattle.tdb_run.specs.Session.{ScriptState, Answer, Answers}
+use Rattle.tdb_run.specs.SessionState.{state_of}
+use Rattle.tdb_run.specs.Stopping.{AnswersNext, LeavesUnanswered, StopsFor}
 use Rattle.tdb_run.specs.declared.log.Log.{Log}
 use Rattle.tdb_run.specs.declared.script_lines.ScriptLines.{ScriptLines}
 use Rattle.tdb_run.specs.declared.session.Session.{Session}
@@ -25,35 +32,50 @@ abbrev pub commits_of : ℕ → List Answer → History
 commits_of count [] = []
 commits_of count (given ∷ answers) = commits_after count given.changes ++ commits_of (count + length (commits_after count given.changes)) answers
 
--- The history grew by these commits, and maybe by one more, whose reply wasn't put.
-abbrev pub RemembersAll : List ℕ → Outside → Outside → History → Type 0
-RemembersAll secret old new answered = IsTrue old.tells → (maybe : History) × (length maybe ≤ 1) × Remembers secret old new answered maybe
+-- no commit, or the one of the next line, whose reply wasn't put
+abbrev pub IsOfNextLine : ScriptState → List ℕ → ℕ → History → Type 0
+IsOfNextLine state unanswered count maybe =
+    (maybe ≡ []) ⊎ ((line : List ℕ) × (later : List ℕ) × (given : Answer) × (unanswered ≡ line ++ 10 ∷ later) × Answers state line given × (maybe ≡ commits_after count given.changes))
 
 -- a line's reply was put, and its commit was made before
-pub record HasAcknowledged (came gone : SourceContent) (before after : SinkContent) (old new : Outside) (log next : Log) (lines rest : ScriptLines) (first last : Session) (reply : Reply) : Type 0 where
+pub record HasAcknowledged {D : Type 0} (outside : D → Outside) (crash_states : D → CrashStates) (came gone : SourceContent) (before after : SinkContent) (old new : D) (log next : Log) (lines rest : ScriptLines) (first last : Session) (reply : Reply) : Type 0 where
   pub replied : HasReplied came gone before after lines rest first last reply
   pub count : next.head.count ≡ log.head.count + length (commits_after log.head.count replied.given.changes)
-  pub remembered : IsTrue old.tells → Remembers log.keys old new (commits_after log.head.count replied.given.changes) []
+  pub remembered : IsTrue (outside old).tells → Remembers outside crash_states (store_of log) old new (commits_after log.head.count replied.given.changes) []
+
+-- The run ends without a further reply: there is no further line, or its commit is the one that may be made.
+abbrev pub StopsBehind : {D : Type 0} → (D → Outside) → (D → CrashStates) → SourceContent → SourceContent → SinkContent → SinkContent → D → D → Log → ScriptLines → ScriptLines → Session → Status → Type 0
+StopsBehind outside crash_states came gone before after old new log lines rest first status =
+    ((after ≡ before) × ((left : LeavesUnanswered came gone lines rest) × StopsFor left status) × (IsTrue (outside old).tells → Remembers outside crash_states (store_of log) old new [] []))
+    ⊎ ((given : Answer) × AnswersNext came gone lines rest (state_of first) given × IsUnfinished (reply_spelling given.reply) before after (outside old) (outside new) status
+    × (IsTrue (outside old).tells → Remembers outside crash_states (store_of log) old new [] (commits_after log.head.count given.changes)))
 
 -- what a script's lines have come to, after so many commits
-pub record ServedAll (came gone : SourceContent) (before after : SinkContent) (secret : List ℕ) (old new : Outside) (count : ℕ) (status : Status) : Type 0 where
+pub record ServedAll {D : Type 0} (outside : D → Outside) (crash_states : D → CrashStates) (came gone : SourceContent) (before after : SinkContent) (store : Store) (old new : D) (count : ℕ) (status : Status) : Type 0 where
   pub served : Served came gone before after status
-  pub remembered : RemembersAll secret old new (commits_of count served.conversation.answers)
+  pub maybe : History
+  pub next : IsOfNextLine served.conversation.state served.conversation.unanswered (count + length (commits_of count served.conversation.answers)) maybe
+  pub remembered : IsTrue (outside old).tells → Remembers outside crash_states store old new (commits_of count served.conversation.answers) maybe
 
--- what a new store begins with: its opening commit, or nothing where no line was answered
-abbrev pub Begins : History → List Answer → Type 0
-Begins begun answers = (begun ≡ opening) ⊎ ((begun ≡ []) × (answers ≡ []))
+-- What a new store begins with: its opening commit, behind which the next line's may be, or nothing where no line was
+-- answered, behind which the opening commit may be.
+abbrev pub Begins : {came gone : SourceContent} → Conversation came gone → History → History → Type 0
+Begins c begun maybe =
+    ((begun ≡ opening) × IsOfNextLine c.state c.unanswered (2 + length (commits_of 2 c.answers)) maybe)
+    ⊎ ((begun ≡ []) × (c.answers ≡ []) × ((maybe ≡ []) ⊎ (maybe ≡ opening)))
 
 -- the same of a new store, up to its last line
-pub record Started (came gone : SourceContent) (before after : SinkContent) (secret : List ℕ) (old new : Outside) (status : Status) : Type 0 where
+pub record Started {D : Type 0} (outside : D → Outside) (crash_states : D → CrashStates) (came gone : SourceContent) (before after : SinkContent) (store : Store) (old new : D) (status : Status) : Type 0 where
   pub served : Served came gone before after status
   pub begun : History
-  pub begins : Begins begun served.conversation.answers
-  pub remembered : RemembersAll secret old new (begun ++ commits_of 2 served.conversation.answers)
+  pub maybe : History
+  pub begins : Begins served.conversation begun maybe
+  pub remembered : IsTrue (outside old).tells → RunRemembers outside crash_states store old new (begun ++ commits_of 2 served.conversation.answers) maybe
 
 -- the same of a run
-pub record Acknowledged (came gone : SourceContent) (before after : SinkContent) (secret : List ℕ) (old new : Outside) (status : Status) : Type 0 where
+pub record Acknowledged {D : Type 0} (outside : D → Outside) (crash_states : D → CrashStates) (came gone : SourceContent) (before after : SinkContent) (store : Store) (old new : D) (status : Status) : Type 0 where
   pub replies : Replies came gone before after status
   pub begun : History
-  pub begins : Begins begun replies.conversation.answers
-  pub remembered : RemembersAll secret old new (begun ++ commits_of 2 replies.conversation.answers)
+  pub maybe : History
+  pub begins : Begins replies.conversation begun maybe
+  pub remembered : IsTrue (outside old).tells → RunRemembers outside crash_states store old new (begun ++ commits_of 2 replies.conversation.answers) maybe

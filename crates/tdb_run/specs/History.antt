@@ -1,22 +1,29 @@
 -- The history that a trace tells of an anchor: its commits, oldest first, each with its count and its changes.
-use Rattle.std.specs.Prelude.{◌≡◌, ◌⊎◌, ℕ, List, [], ◌∷◌, ◌++◌, Some, Result, IsErr}
+use Rattle.std.specs.Prelude.{◌≡◌, ◌⊎◌, ℕ, List, [], ◌∷◌, ◌++◌, Some}
 use Rattle.tdb_base.specs.declared.suite.Suite.{Suite}
+use Rattle.tdb_base.specs.declared.suite.Suite.TheVariants.{Plain}
 use Rattle.tdb_base.specs.SuiteNumber.{suite_number}
-use Rattle.tdb_base.specs.Trace.{WrittenPiece, Extends}
+use Rattle.tdb_base.specs.Trace.{WrittenPiece}
 use Rattle.tdb_list.specs.declared.entry.Entry.{Entry}
 use Rattle.tdb_list.specs.ChangeList.{IsChangeList}
 use Rattle.tdb_mark.specs.declared.commit.Commit.{Commit}
 use Rattle.tdb_mark.specs.CommitChain.{commit_chain}
 use Rattle.tdb_mark.specs.CommitText.{commit_key_of, commit_of}
 use Rattle.tdb_mark.specs.TextOfDigest.{text_of_digest}
-use Rattle.tdb_mark.specs.Unforged.{IsUnforged}
-use Rattle.tdb_platform.specs.Outside.{Anchor, Outside}
+use Rattle.tdb_model.specs.declared.change.Change.{Change}
+use Rattle.tdb_model.specs.declared.change.Change.TheVariants.{Write, Free, Make, Copy, Drop}
+use Rattle.tdb_model.specs.Apply.{History}
+use Rattle.tdb_model.specs.Opening.{opening_changes}
+use Rattle.tdb_node.specs.declared.table.Table.{Table}
+use Rattle.tdb_node.specs.SegmentTable.{IsTable, table_bytes}
+use Rattle.tdb_platform.specs.Outside.{Anchor}
 use Rattle.tdb_seal.specs.SealedRecord.{IsSealedRecord}
-use Rattle.tdb_run.specs.Change.{Change, write, free, make, copy, drop}
 use Rattle.tdb_run.specs.Keys.{partition_key, system_key}
 
-abbrev pub History : Type 0
-History = List (ℕ × List Change)
+-- A store, by what its owner knows of it: the secret, and the number of segments that it has.
+pub record Store : Type 0 where
+  pub secret : List ℕ
+  pub segments : ℕ
 
 -- which bytes a digest stands for
 abbrev pub Finds : Type 1
@@ -36,11 +43,11 @@ pub record IsWritten (finds : Finds) (secret : List ℕ) (e : Entry) (bytes : Li
 
 -- the change that an entry says
 abbrev pub IsChangeOf : Finds → List ℕ → Entry → Change → Type 0
-IsChangeOf finds secret e (write part rank bytes) = (e.kind ≡ 1) × (e.part ≡ part) × (e.rank ≡ rank) × IsWritten finds secret e bytes
-IsChangeOf finds secret e (free part rank) = (e.kind ≡ 2) × (e.part ≡ part) × (e.rank ≡ rank)
-IsChangeOf finds secret e (make part suite) = (e.kind ≡ 3) × (e.part ≡ part) × (e.suite ≡ suite)
-IsChangeOf finds secret e (copy from to) = (e.kind ≡ 4) × (e.part ≡ from) × (e.rank ≡ to)
-IsChangeOf finds secret e (drop part) = (e.kind ≡ 5) × (e.part ≡ part)
+IsChangeOf finds secret e (Write part rank bytes) = (e.kind ≡ 1) × (e.part ≡ part.0) × (e.rank ≡ rank.0) × IsWritten finds secret e bytes
+IsChangeOf finds secret e (Free part rank) = (e.kind ≡ 2) × (e.part ≡ part.0) × (e.rank ≡ rank.0)
+IsChangeOf finds secret e (Make part suite) = (e.kind ≡ 3) × (e.part ≡ part.0) × (suite_number suite ≡ e.suite)
+IsChangeOf finds secret e (Copy from to) = (e.kind ≡ 4) × (e.part ≡ from.0) × (e.rank ≡ to.0)
+IsChangeOf finds secret e (Drop part) = (e.kind ≡ 5) × (e.part ≡ part.0)
 
 -- one change for each entry
 abbrev pub AreChangesOf : Finds → List ℕ → List Entry → List Change → Type 0
@@ -59,35 +66,32 @@ pub record HasChanges (finds : Finds) (secret : List ℕ) (c : Commit) (changes 
   pub list : IsChangeList entries plain
   pub each : AreChangesOf finds secret entries changes
 
+-- The table that a checkpoint names has as many segments as its text says.
+pub record HasTable (finds : Finds) (secret : List ℕ) (c : Commit) : Type 0 where
+  pub sealed : List ℕ
+  pub table : Table
+  pub found : finds c.first.digest.0 sealed
+  pub opened : IsSealedRecord (system_key secret) (record { kind = 4; suite = c.suite; home = 0; rank = 0 }) (table_bytes table) sealed
+  pub is_table : IsTable table
+  pub segments : table.segments ≡ c.segments
+
 -- what a text adds: a checkpoint nothing, a commit its count and its changes
 abbrev pub Adds : Finds → List ℕ → Commit → History → Type 0
 Adds finds secret c added =
-    ((c.kind ≡ 2) × (added ≡ [])) ⊎ ((c.kind ≡ 1) × ((changes : List Change) × HasChanges finds secret c changes × (added ≡ (c.count, changes) ∷ [])))
+    ((c.kind ≡ 2) × HasTable finds secret c × (added ≡ [])) ⊎ ((c.kind ≡ 1) × ((changes : List Change) × HasChanges finds secret c changes × (added ≡ (c.count, changes) ∷ [])))
 
--- the history of a chain of texts
-abbrev pub IsHistoryOf : Finds → List ℕ → List Commit → History → Type 0
-IsHistoryOf finds secret [] history = history ≡ []
-IsHistoryOf finds secret (c ∷ chain) history =
-    (added : History) × (later : History) × Adds finds secret c added × IsHistoryOf finds secret chain later × (history ≡ added ++ later)
+-- the history of a chain of texts, each of which has the store's number of segments
+abbrev pub IsHistoryOf : Finds → Store → List Commit → History → Type 0
+IsHistoryOf finds store [] history = history ≡ []
+IsHistoryOf finds store (c ∷ chain) history =
+    (added : History) × (later : History) × Adds finds store.secret c added × IsHistoryOf finds store chain later × (history ≡ added ++ later) × (c.segments ≡ store.segments)
 
 -- the history of the chain that ends at the anchor
-pub record IsHistory (written : List WrittenPiece) (secret : List ℕ) (anchor : Anchor) (history : History) : Type 0 where
+pub record IsHistory (written : List WrittenPiece) (store : Store) (anchor : Anchor) (history : History) : Type 0 where
   pub chain : List Commit
-  pub ends : commit_chain written (commit_of (commit_key_of secret)) anchor.0 anchor.1 ≡ Some chain
-  pub tells : IsHistoryOf (in_trace written) secret chain history
-
--- The history grew by these commits. After an error it did so, or it is the old one.
-pub record Added {T E : Type 0} (secret : List ℕ) (old new : Outside) (added : History) (result : Result T E) : Type 0 where
-  pub grows : Extends old.trace new.trace
-  pub history : IsUnforged new.trace (commit_of (commit_key_of secret)) → (before : History) → IsHistory old.trace.written secret old.anchor before
-      → IsHistory new.trace.written secret new.anchor (before ++ added) ⊎ (IsErr result × IsHistory new.trace.written secret new.anchor before)
+  pub ends : commit_chain written (commit_of (commit_key_of store.secret)) anchor.0 anchor.1 ≡ Some chain
+  pub tells : IsHistoryOf (in_trace written) store chain history
 
 -- the commit with which a new store begins: partitions 1 and 2 in suite plain
 abbrev pub opening : History
-opening = (2, make 1 0 ∷ make 2 0 ∷ []) ∷ []
-
--- The history grew by some commits for sure, and maybe by more behind them.
-pub record Remembers (secret : List ℕ) (old new : Outside) (surely maybe : History) : Type 0 where
-  pub grows : Extends old.trace new.trace
-  pub history : IsUnforged new.trace (commit_of (commit_key_of secret)) → (before : History) → IsHistory old.trace.written secret old.anchor before
-      → IsHistory new.trace.written secret new.anchor (before ++ surely) ⊎ IsHistory new.trace.written secret new.anchor (before ++ (surely ++ maybe))
+opening = (2, opening_changes Plain) ∷ []

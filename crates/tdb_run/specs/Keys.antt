@@ -1,5 +1,5 @@
 -- The keys that a secret gives to the records of a store. `commit_key_of` is that of its commit texts.
-use Rattle.std.specs.Prelude.{◌≡◌, ◌⊎◌, ℕ, List, codes}
+use Rattle.std.specs.Prelude.{◌≡◌, ◌⊎◌, ◌<◌, ◌≤◌, ℕ, List, codes}
 use Rattle.tdb_mac.specs.Derive.{derived_key}
 use Rattle.tdb_seal.specs.declared.record.Name.{Name}
 
@@ -11,6 +11,15 @@ system_key secret = derived_key secret (codes "TDBsystm") 0 0
 abbrev pub partition_key : List ℕ → ℕ → ℕ → List ℕ
 partition_key secret home birth = derived_key secret (codes "TDBpartn") home birth
 
--- Records of the system have home 0.
+-- a table (4) or a list (5), as the system's records are called
+abbrev pub IsSystemName : Name → Type 0
+IsSystemName name = (name.home ≡ 0) × (name.rank ≡ 0) × ((name.kind ≡ 4) ⊎ (name.kind ≡ 5))
+
+-- a chunk (1) of one of the 4,095 partitions
+abbrev pub IsChunkName : Name → Type 0
+IsChunkName name = (name.kind ≡ 1) × (1 ≤ name.home) × (name.home ≤ 4095) × (name.rank < 262144)
+
+-- the key that a record has by its name
 abbrev pub IsKeyFor : List ℕ → Name → List ℕ → Type 0
-IsKeyFor secret name key = ((name.home ≡ 0) × (key ≡ system_key secret)) ⊎ ((birth : ℕ) × (key ≡ partition_key secret name.home birth))
+IsKeyFor secret name key =
+    (IsSystemName name × (key ≡ system_key secret)) ⊎ (IsChunkName name × ((birth : ℕ) × (1 ≤ birth) × (key ≡ partition_key secret name.home birth)))

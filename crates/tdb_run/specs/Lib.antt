@@ -1,8 +1,8 @@
 pub mod Acknowledged
-pub mod Change
 pub mod Command
 pub mod CommandValue
 pub mod Gave
+pub mod Growth
 pub mod History
 pub mod Keys
 pub mod LaidOut

@@ -5,6 +5,7 @@ use Rattle.tdb_base.specs.declared.piece.Piece.{Piece}
 use Rattle.tdb_base.specs.declared.suite.Suite.TheVariants.{Plain}
 use Rattle.tdb_mark.specs.declared.commit.Commit.{Commit}
 use Rattle.tdb_platform.specs.Outside.{Outside}
+use Rattle.tdb_run.specs.History.{Store}
 use Rattle.tdb_run.specs.Session.{ScriptState, closed}
 use Rattle.tdb_run.specs.declared.log.Log.{Log}
 use Rattle.tdb_run.specs.declared.status.Status.{Status}
@@ -13,6 +14,10 @@ use Rattle.tdb_run.specs.declared.status.Status.TheVariants.{Done, Usage, Anchor
 -- the anchor names the log's last text
 abbrev pub IsAtHead : Outside → Log → Type 0
 IsAtHead outside log = IsTrue outside.tells → outside.anchor ≡ (log.head.count, log.head.mark.0)
+
+-- the store whose log it is
+abbrev pub store_of : Log → Store
+store_of log = record { secret = log.keys; segments = log.segments }
 
 -- So many more commits fit the first segment, and the count. A commit lays at most 4,096 bytes there.
 pub record HasRoomFor (commits : ℕ) (log : Log) : Type 0 where

@@ -1,8 +1,9 @@
 -- The names of the records that a run seals, and the entries of its lists.
-use Rattle.std.specs.Prelude.{ℕ, replicate}
+use Rattle.std.specs.Prelude.{ℕ, ◌∷◌, replicate}
 use Rattle.tdb_base.specs.declared.piece.Piece.{Piece}
 use Rattle.tdb_base.specs.declared.suite.Suite.TheVariants.{Plain}
 use Rattle.tdb_list.specs.declared.entry.Entry.{Entry}
+use Rattle.tdb_node.specs.declared.table.Table.{Table}
 use Rattle.tdb_seal.specs.declared.record.Name.{Name}
 
 -- the segment table of a checkpoint
@@ -16,6 +17,10 @@ list_name = record { kind = 5; suite = Plain; home = 0; rank = 0 }
 -- the chunk of the note, of rank 1 of partition 1
 abbrev pub note_name : Name
 note_name = record { kind = 1; suite = Plain; home = 1; rank = 1 }
+
+-- the table of which only the first segment is used
+abbrev pub first_table_of : ℕ → Table
+first_table_of segments = record { segments = segments; used = 1 ∷ replicate 63 0 }
 
 abbrev pub nowhere : Piece
 nowhere = record { place = record { 0 = 0 }; length = 0; digest = record { 0 = replicate 32 0 } }

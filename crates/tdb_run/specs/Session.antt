@@ -2,7 +2,8 @@
 use Rattle.std.specs.Prelude.{◌≡◌, ◌⊎◌, ◌==◌, ℕ, List, [], ◌∷◌, Option, Some, None, if◌then◌else◌}
 use Rattle.tdb_script.specs.NoteText.{stored_note_bytes}
 use Rattle.tdb_script.specs.LineSpelling.{LineValue, IsLine, begin, new_note, commit, quit}
-use Rattle.tdb_run.specs.Change.{Change, write}
+use Rattle.tdb_model.specs.declared.change.Change.{Change}
+use Rattle.tdb_model.specs.declared.change.Change.TheVariants.{Write}
 use Rattle.tdb_script.specs.declared.reply.Reply.{Reply}
 use Rattle.tdb_script.specs.declared.reply.Reply.TheVariants.{Begun, Made, Committed, Bye, RefusedUnbuilt}
 
@@ -25,10 +26,14 @@ replied reply next = record { reply = reply; next = next; changes = [] }
 abbrev pub unbuilt : ScriptState → Answer
 unbuilt state = replied RefusedUnbuilt state
 
--- A note is the chunk of rank 1 of partition 1. A transaction without one changes nothing.
+-- A note is the chunk of rank 1 of partition 1.
+abbrev pub write_of_note : List ℕ → Change
+write_of_note text = Write (record { 0 = 1 }) (record { 0 = 1 }) (stored_note_bytes text)
+
+-- A transaction without one changes nothing.
 abbrev pub changes_of_note : Option (List ℕ) → List Change
 changes_of_note None = []
-changes_of_note (Some text) = write 1 1 (stored_note_bytes text) ∷ []
+changes_of_note (Some text) = write_of_note text ∷ []
 
 -- the answer to a line of the grammar
 abbrev pub answer : ScriptState → LineValue → Answer

@@ -5,12 +5,15 @@ ghost use Rattle.tdb_append.specs.Placed.{placed};
 ghost use Rattle.tdb_list.specs.ChangeList.{IsList};
 ghost use Rattle.tdb_list.specs.Entry.{IsEntryValue};
 ghost use Rattle.tdb_mark.specs.CommitFormat.{IsCommitValue, IsInFormat};
-ghost use Rattle.tdb_run.specs.Change.{Change, make, write};
-ghost use Rattle.tdb_run.specs.History.{Added, Adds, AreChangesOf, History};
+ghost use Rattle.tdb_model.specs.Apply.{History};
+ghost use Rattle.tdb_model.specs.Opening.{opening_changes};
+ghost use Rattle.tdb_model.specs.declared.change.Change.{Change};
+ghost use Rattle.tdb_run.specs.Growth.{Added, IsSettled};
+ghost use Rattle.tdb_run.specs.History.{Adds, AreChangesOf};
 ghost use Rattle.tdb_run.specs.LaidOut.{LaidOut, in_pieces};
-ghost use Rattle.tdb_script.specs.NoteText.{stored_note_bytes};
 ghost use Rattle.tdb_run.specs.Records.{make_entry, note_entry};
 ghost use Rattle.tdb_run.specs.SealedOnly.{WritesOnlySealed};
+ghost use Rattle.tdb_run.specs.Session.{write_of_note};
 
 use crate::batch::Batch;
 use crate::keys::Keys;
@@ -76,7 +79,7 @@ fn write_note(piece: Piece) -> Entry
 }
 
 impl Log {
-    ghost use Rattle.tdb_run.specs.LogState.{Grew, HasRoom, HasRoomFor, IsAtHead, IsStopOfCommit, next_commit};
+    ghost use Rattle.tdb_run.specs.LogState.{Grew, HasRoom, HasRoomFor, IsAtHead, IsStopOfCommit, next_commit, store_of};
 
     /// Lays the log's start on a device: the segment table, and the checkpoint that names it.
     pub fn format<P: Platform>(
@@ -86,16 +89,18 @@ impl Log {
         segments: u32,
     ) -> Result<Log, Status>
         requires first { IsTrue (P.outside platform.old).tells → (P.outside platform.old).anchor.0 ≡ 0 }
+        requires settled { IsSettled P.outside P.crash_states platform.old }
         requires least { 16 ≤ segments }
         requires most { segments ≤ 4096 }
         ensures ok { IfOk result (λ log. IsAtHead (P.outside platform.new) log) }
         ensures start { IfOk result (λ log. (log.keys ≡ secret.now) × (log.head.count ≡ 1) × (log.head.base ≡ 1) × (log.segments ≡ segments)) }
         ensures room { IfOk result (λ log. HasRoomFor 2 log) }
+        ensures settled { OnOk result (IsSettled P.outside P.crash_states platform.new) }
         ensures stopped { IfErr result (λ status. IsStopOfCommit (P.outside platform.old) (P.outside platform.new) status) }
         ensures tells { (P.outside platform.new).tells ≡ (P.outside platform.old).tells }
         ensures no_fewer { (P.outside platform.old).faults ≤ (P.outside platform.new).faults }
         ensures sealed { IsTrue (P.outside platform.old).tells → WritesOnlySealed secret.now (P.outside platform.old).trace (P.outside platform.new).trace }
-        ensures history { IsTrue (P.outside platform.old).tells → Added secret.now (P.outside platform.old) (P.outside platform.new) [] result }
+        ensures history { IsTrue (P.outside platform.old).tells → Added P.outside P.crash_states (record { secret = secret.now; segments = segments }) platform.old platform.new [] result }
     {
         let mut log = Log {
             keys: Keys::new(secret),
@@ -122,15 +127,17 @@ impl Log {
         platform: &mut P,
     ) -> Result<(), Status>
         requires at_head { IsAtHead (P.outside platform.old) self.old }
+        requires settled { IsSettled P.outside P.crash_states platform.old }
         requires room { HasRoomFor 2 self.old }
         ensures ok { OnOk result (IsAtHead (P.outside platform.new) self.new) }
         ensures count { OnOk result (Grew self.old self.new) }
         ensures room { OnOk result (HasRoom self.new) }
+        ensures settled { OnOk result (IsSettled P.outside P.crash_states platform.new) }
         ensures stopped { IfErr result (λ status. IsStopOfCommit (P.outside platform.old) (P.outside platform.new) status) }
         ensures tells { (P.outside platform.new).tells ≡ (P.outside platform.old).tells }
         ensures no_fewer { (P.outside platform.old).faults ≤ (P.outside platform.new).faults }
         ensures sealed { IsTrue (P.outside platform.old).tells → WritesOnlySealed self.old.keys (P.outside platform.old).trace (P.outside platform.new).trace }
-        ensures history { IsTrue (P.outside platform.old).tells → Added self.old.keys (P.outside platform.old) (P.outside platform.new) ((self.old.head.count + 1, make 1 0 ∷ make 2 0 ∷ []) ∷ []) result }
+        ensures history { IsTrue (P.outside platform.old).tells → Added P.outside P.crash_states (store_of self.old) platform.old platform.new ((self.old.head.count + 1, opening_changes Suite.Plain) ∷ []) result }
     {
         let batch = Batch::new(alloc, self.tail)?;
         self.commit(alloc, platform, &[make_part(1), make_part(2)], batch)
@@ -144,14 +151,16 @@ impl Log {
         note: &Note,
     ) -> Result<(), Status>
         requires at_head { IsAtHead (P.outside platform.old) self.old }
+        requires settled { IsSettled P.outside P.crash_states platform.old }
         requires room { HasRoom self.old }
         ensures ok { OnOk result (IsAtHead (P.outside platform.new) self.new) }
         ensures count { OnOk result (Grew self.old self.new) }
+        ensures settled { OnOk result (IsSettled P.outside P.crash_states platform.new) }
         ensures stopped { IfErr result (λ status. IsStopOfCommit (P.outside platform.old) (P.outside platform.new) status) }
         ensures tells { (P.outside platform.new).tells ≡ (P.outside platform.old).tells }
         ensures no_fewer { (P.outside platform.old).faults ≤ (P.outside platform.new).faults }
         ensures sealed { IsTrue (P.outside platform.old).tells → WritesOnlySealed self.old.keys (P.outside platform.old).trace (P.outside platform.new).trace }
-        ensures history { IsTrue (P.outside platform.old).tells → Added self.old.keys (P.outside platform.old) (P.outside platform.new) ((self.old.head.count + 1, write 1 1 (stored_note_bytes note.now) ∷ []) ∷ []) result }
+        ensures history { IsTrue (P.outside platform.old).tells → Added P.outside P.crash_states (store_of self.old) platform.old platform.new ((self.old.head.count + 1, write_of_note note.now ∷ []) ∷ []) result }
     {
         let chunk = seal_note(alloc, &self.keys, note)?;
         let mut batch = Batch::new(alloc, self.tail)?;
@@ -168,6 +177,7 @@ impl Log {
         mut batch: Batch,
     ) -> Result<(), Status>
         requires at_head { IsAtHead (P.outside platform.old) self.old }
+        requires settled { IsSettled P.outside P.crash_states platform.old }
         requires room { HasRoom self.old }
         requires list { IsList entries.now }
         requires values { AllByRecursion IsEntryValue entries.now }
@@ -177,12 +187,13 @@ impl Log {
         ensures ok { OnOk result (IsAtHead (P.outside platform.new) self.new) }
         ensures count { OnOk result (Grew self.old self.new) }
         ensures tail { OnOk result (self.new.tail.0 ≡ batch.tail.0 + 64 + 72 * length entries.now) }
+        ensures settled { OnOk result (IsSettled P.outside P.crash_states platform.new) }
         ensures stopped { IfErr result (λ status. IsStopOfCommit (P.outside platform.old) (P.outside platform.new) status) }
         ensures tells { (P.outside platform.new).tells ≡ (P.outside platform.old).tells }
         ensures no_fewer { (P.outside platform.old).faults ≤ (P.outside platform.new).faults }
         ensures sealed { IsTrue (P.outside platform.old).tells → WritesOnlySealed self.old.keys (P.outside platform.old).trace (P.outside platform.new).trace }
         ensures history { IsTrue (P.outside platform.old).tells → (changes : List Change) → AreChangesOf (in_pieces (placed batch.pieces.items)) self.old.keys entries.now changes
-            → Added self.old.keys (P.outside platform.old) (P.outside platform.new) ((self.old.head.count + 1, changes) ∷ []) result }
+            → Added P.outside P.crash_states (store_of self.old) platform.old platform.new ((self.old.head.count + 1, changes) ∷ []) result }
     {
         let list = seal_list(alloc, &self.keys, entries)?;
         let first = batch.lay(list)?;
@@ -215,23 +226,26 @@ impl Log {
         batch: Batch,
     ) -> Result<(), Status>
         requires count { IsTrue (P.outside platform.old).tells → (P.outside platform.old).anchor.0 ≡ self.old.head.count }
+        requires settled { IsSettled P.outside P.crash_states platform.old }
         requires counts_on { self.old.head.count < 18446744073709551615 }
         requires value { IsCommitValue commit.now }
         requires next_count { commit.now.count ≡ self.old.head.count + 1 }
         requires next_mark { commit.now.prev ≡ self.old.head.mark }
         requires start { self.old.head.count ≡ 0 → self.old.head.mark.0 ≡ replicate 32 0 }
+        requires same_segments { commit.now.segments ≡ self.old.segments }
         requires in_format { IsInFormat commit.now }
         requires laid_out { LaidOut self.old.keys batch.tail.0 (placed batch.pieces.items) }
         ensures ok { OnOk result (IsAtHead (P.outside platform.new) self.new) }
         ensures count { OnOk result (Grew self.old self.new) }
         ensures tail { OnOk result (self.new.tail ≡ batch.tail) }
+        ensures settled { OnOk result (IsSettled P.outside P.crash_states platform.new) }
         ensures stopped { IfErr result (λ status. IsStopOfCommit (P.outside platform.old) (P.outside platform.new) status) }
         ensures tells { (P.outside platform.new).tells ≡ (P.outside platform.old).tells }
         ensures no_fewer { (P.outside platform.old).faults ≤ (P.outside platform.new).faults }
         ensures sealed { IsTrue (P.outside platform.old).tells → WritesOnlySealed self.old.keys (P.outside platform.old).trace (P.outside platform.new).trace }
         ensures history { IsTrue (P.outside platform.old).tells → ((P.outside platform.old).anchor ≡ (self.old.head.count, self.old.head.mark.0)) ⊎ (self.old.head.count ≡ 0)
             → (added : History) → Adds (in_pieces (placed batch.pieces.items)) self.old.keys commit.now added
-            → Added self.old.keys (P.outside platform.old) (P.outside platform.new) added result }
+            → Added P.outside P.crash_states (store_of self.old) platform.old platform.new added result }
     {
         let text = write_commit_with(commit, self.keys.commit());
         match put(platform, &self.head, &batch.pieces, &text) {

@@ -3,11 +3,11 @@ ghost use Rattle.std.specs.Prelude.{◌≡◌, ◌+◌, ◌*◌, ◌≤◌, ◌<
 ghost use Rattle.std.specs.List.{AllByRecursion};
 ghost use Rattle.tdb_list.specs.ChangeList.{IsList, list_bytes};
 ghost use Rattle.tdb_list.specs.Entry.{IsEntryValue};
-ghost use Rattle.tdb_node.specs.SegmentTable.{IsTable, IsTableValue, IsUsed};
+ghost use Rattle.tdb_node.specs.SegmentTable.{IsTable, IsTableValue, IsUsed, table_bytes};
 ghost use Rattle.tdb_script.specs.NoteText.{stored_note_bytes};
 ghost use Rattle.tdb_seal.specs.SealedRecord.{IsSealedRecord};
 ghost use Rattle.tdb_run.specs.Keys.{partition_key, system_key};
-ghost use Rattle.tdb_run.specs.Records.{list_name, note_name, table_name};
+ghost use Rattle.tdb_run.specs.Records.{first_table_of, list_name, note_name, table_name};
 ghost use Rattle.tdb_run.specs.SealedOnly.{IsRecord};
 
 use crate::keys::Keys;
@@ -53,9 +53,9 @@ const NOTE_NAME: Name = Name {
 fn first_table(segments: u32) -> Table
     requires least { 16 ≤ segments }
     requires most { segments ≤ 4096 }
+    ensures is { result ≡ first_table_of segments }
     ensures table { IsTable result }
     ensures value { IsTableValue result }
-    ensures segments { result.segments ≡ segments }
     ensures used { (s : ℕ) → IsUsed result s ↔ s ≡ 0 }
 {
     let mut used = [0; 64];
@@ -67,6 +67,7 @@ fn first_table(segments: u32) -> Table
 pub(crate) fn seal_table(alloc: Global, keys: &Keys, segments: u32) -> Result<Vec<u8>, AllocError>
     requires least { 16 ≤ segments }
     requires most { segments ≤ 4096 }
+    ensures sealed { IfOk result (λ bytes. IsSealedRecord (system_key keys.now) table_name (table_bytes (first_table_of segments)) bytes.items) }
     ensures is_record { IfOk result (λ bytes. IsRecord keys.now bytes.items) }
     ensures size { IfOk result (λ bytes. length bytes.items ≡ 576) }
 {

@@ -1,7 +1,7 @@
 //! One run: a command from its words to its last line.
-ghost use Rattle.std.specs.Prelude.{◌≡◌, ◌≢◌, ◌⊎◌, ◌↔◌, IsTrue};
+ghost use Rattle.std.specs.Prelude.{◌≡◌, ◌≢◌, ◌⊎◌, ◌↔◌, ℕ, IsTrue};
 ghost use Rattle.tdb_run.specs.Acknowledged.{Acknowledged, Started};
-ghost use Rattle.tdb_run.specs.Command.{IsCommand, IsNoCommand, texts};
+ghost use Rattle.tdb_run.specs.Command.{IsCommand, IsNoCommand, IsStart, texts};
 ghost use Rattle.tdb_run.specs.OneLine.{Keeps};
 ghost use Rattle.tdb_run.specs.Replies.{Replies};
 ghost use Rattle.tdb_run.specs.SealedOnly.{OnlySealed};
@@ -46,8 +46,10 @@ pub fn run<S: Source, K: Sink, P: Platform>(
     ensures already_untouched { IsCommand (texts words.now) → IsTrue (P.outside platform).tells → (P.outside platform).anchor.0 ≢ 0
         → IsUnwritten (P.outside platform) (P.outside result.platform) × (source.new ≡ source.old) }
 
-    // Each commit whose reply was put stands in the history of the anchor, and at most one other commit behind them.
-    ensures acknowledged { Acknowledged (S.content source.old) (S.content source.new) (K.content sink.old) (K.content sink.new) secret.now (P.outside platform) (P.outside result.platform) result.status }
+    // Each commit whose reply was put stands in the history of the anchor, and of each that a stop may leave; behind them
+    // at most the commit of the next line. Since the anchor was told, a stop leaves no other than with a first part of these.
+    ensures acknowledged { (segments : ℕ) → IsStart (texts words.now) segments
+        → Acknowledged P.outside P.crash_states (S.content source.old) (S.content source.new) (K.content sink.old) (K.content sink.new) (record { secret = secret.now; segments = segments }) platform result.platform result.status }
 
     // Whatever goes to the device is a sealed record in a segment, or a commit text with its tag in a slot.
     ensures sealed_only { OnlySealed secret.now (P.outside platform) (P.outside result.platform) }
@@ -83,7 +85,8 @@ fn outcome<S: Source, K: Sink, P: Platform>(
     ensures no_command { IsNoCommand (texts words.now) → (platform.new ≡ platform.old) × (source.new ≡ source.old) }
     ensures already_untouched { IsCommand (texts words.now) → IsTrue (P.outside platform.old).tells → (P.outside platform.old).anchor.0 ≢ 0
         → IsUnwritten (P.outside platform.old) (P.outside platform.new) × (source.new ≡ source.old) }
-    ensures remembered { Started (S.content source.old) (S.content source.new) (K.content sink.old) (K.content sink.new) secret.now (P.outside platform.old) (P.outside platform.new) result }
+    ensures remembered { (segments : ℕ) → IsStart (texts words.now) segments
+        → Started P.outside P.crash_states (S.content source.old) (S.content source.new) (K.content sink.old) (K.content sink.new) (record { secret = secret.now; segments = segments }) platform.old platform.new result }
     ensures sealed { OnlySealed secret.now (P.outside platform.old) (P.outside platform.new) }
     ensures served { Served (S.content source.old) (S.content source.new) (K.content sink.old) (K.content sink.new) result }
     ensures causes { IsCaused (S.content source.old) (S.content source.new) (K.content sink.old) (K.content sink.new) (P.outside platform.old) (P.outside platform.new) result }

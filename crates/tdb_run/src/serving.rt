@@ -4,13 +4,13 @@ ghost use Rattle.tdb_script.specs.ReplySpelling.{reply_spelling};
 ghost use Rattle.tdb_run.specs.SessionState.{state_of, answer_of};
 ghost use Rattle.tdb_run.specs.Stopping.{AnswersNext, LeavesUnanswered, StopsFor};
 ghost use Rattle.tdb_run.specs.PutReply.{IsPutFor};
-ghost use Rattle.tdb_run.specs.LogState.{HasRoom, IsAtHead, IsStopOfCommit, MayCommit};
+ghost use Rattle.tdb_run.specs.LogState.{HasRoom, IsAtHead, IsStopOfCommit, MayCommit, store_of};
 ghost use Rattle.tdb_run.specs.Session.{fresh};
 ghost use Rattle.tdb_run.specs.Unread.{unread};
 ghost use Rattle.tdb_run.specs.OneLine.{HasReplied, Interrupted, IsUnfinished, Keeps};
 ghost use Rattle.tdb_run.specs.SealedOnly.{OnlySealed};
-ghost use Rattle.tdb_run.specs.Acknowledged.{HasAcknowledged, RemembersAll, ServedAll, commits_after};
-ghost use Rattle.tdb_run.specs.History.{Remembers};
+ghost use Rattle.tdb_run.specs.Acknowledged.{HasAcknowledged, ServedAll, StopsBehind, commits_after};
+ghost use Rattle.tdb_run.specs.Growth.{IsSettled, Remembers};
 ghost use Rattle.tdb_run.specs.Session.{changes_of_note};
 ghost use Rattle.tdb_run.specs.Served.{IsCaused, IsScriptStatus, Served};
 
@@ -70,14 +70,17 @@ fn carry_out<P: Platform>(
     note: &Option<Note>,
 ) -> Result<(), Status>
     requires at_head { IsAtHead (P.outside platform.old) log.old }
+    requires settled { IsSettled P.outside P.crash_states platform.old }
     requires room { IsSome note.now → HasRoom log.old }
     ensures ok { OnOk result (IsAtHead (P.outside platform.new) log.new) }
+    ensures settled { OnOk result (IsSettled P.outside P.crash_states platform.new) }
     ensures none { IsNone note.now → log.new ≡ log.old }
     ensures keys { OnOk result (log.new.keys ≡ log.old.keys) }
+    ensures segments { OnOk result (log.new.segments ≡ log.old.segments) }
     ensures sealed { OnlySealed log.old.keys (P.outside platform.old) (P.outside platform.new) }
     ensures count { OnOk result (log.new.head.count ≡ log.old.head.count + length (commits_after log.old.head.count (changes_of_note note.now))) }
-    ensures remembered { IsTrue (P.outside platform.old).tells → OnOk result (Remembers log.old.keys (P.outside platform.old) (P.outside platform.new) (commits_after log.old.head.count (changes_of_note note.now)) []) }
-    ensures may_be_remembered { IsTrue (P.outside platform.old).tells → Remembers log.old.keys (P.outside platform.old) (P.outside platform.new) [] (commits_after log.old.head.count (changes_of_note note.now)) }
+    ensures remembered { IsTrue (P.outside platform.old).tells → OnOk result (Remembers P.outside P.crash_states (store_of log.old) platform.old platform.new (commits_after log.old.head.count (changes_of_note note.now)) []) }
+    ensures may_be_remembered { IsTrue (P.outside platform.old).tells → Remembers P.outside P.crash_states (store_of log.old) platform.old platform.new [] (commits_after log.old.head.count (changes_of_note note.now)) }
     ensures stopped { IfErr result (λ status. IsStopOfCommit (P.outside platform.old) (P.outside platform.new) status) }
     ensures tells { (P.outside platform.new).tells ≡ (P.outside platform.old).tells }
     ensures no_fewer { (P.outside platform.old).faults ≤ (P.outside platform.new).faults }
@@ -99,15 +102,18 @@ fn answer_one<S: Source, K: Sink, P: Platform>(
     session: &mut Session,
 ) -> Result<Reply, Status>
     requires at_head { IsAtHead (P.outside platform.old) log.old }
+    requires settled { IsSettled P.outside P.crash_states platform.old }
     requires room { MayCommit (state_of session.old) log.old }
     ensures answered { IfOk result (λ reply. HasReplied (S.content source.old) (S.content source.new) (K.content sink.old) (K.content sink.new) lines.old lines.new session.old session.new reply) }
     ensures stopped { IfErr result (λ status. Interrupted (S.content source.old) (S.content source.new) (K.content sink.old) (K.content sink.new) (P.outside platform.old) (P.outside platform.new) lines.old lines.new session.old status) }
     ensures at_head { OnOk result (IsAtHead (P.outside platform.new) log.new) }
+    ensures settled { OnOk result (IsSettled P.outside P.crash_states platform.new) }
     ensures room { OnOk result (MayCommit (state_of session.new) log.new) }
     ensures keys { OnOk result (log.new.keys ≡ log.old.keys) }
+    ensures segments { OnOk result (log.new.segments ≡ log.old.segments) }
     ensures sealed { OnlySealed log.old.keys (P.outside platform.old) (P.outside platform.new) }
-    ensures acknowledged { IfOk result (λ reply. HasAcknowledged (S.content source.old) (S.content source.new) (K.content sink.old) (K.content sink.new) (P.outside platform.old) (P.outside platform.new) log.old log.new lines.old lines.new session.old session.new reply) }
-    ensures may_be_remembered { RemembersAll log.old.keys (P.outside platform.old) (P.outside platform.new) [] }
+    ensures acknowledged { IfOk result (λ reply. HasAcknowledged P.outside P.crash_states (S.content source.old) (S.content source.new) (K.content sink.old) (K.content sink.new) platform.old platform.new log.old log.new lines.old lines.new session.old session.new reply) }
+    ensures stops_behind { IfErr result (λ status. StopsBehind P.outside P.crash_states (S.content source.old) (S.content source.new) (K.content sink.old) (K.content sink.new) platform.old platform.new log.old lines.old lines.new session.old status) }
     ensures keeps { Keeps (S.content source.old) (S.content source.new) (K.content sink.old) (K.content sink.new) (P.outside platform.old) (P.outside platform.new) }
 {
     let answered = match answer_next(alloc, source, lines, session) {
@@ -129,16 +135,19 @@ fn finish_line<K: Sink, P: Platform>(
     answered: &Answered,
 ) -> Result<(), Status>
     requires at_head { IsAtHead (P.outside platform.old) log.old }
+    requires settled { IsSettled P.outside P.crash_states platform.old }
     requires room { IsSome answered.now.note → HasRoom log.old }
     ensures put { IsTrue (K.content sink.old).tells → OnOk result ((K.content sink.new).held ≡ (K.content sink.old).held ++ reply_spelling answered.now.reply) }
     ensures stopped { IfErr result (λ status. IsUnfinished (reply_spelling answered.now.reply) (K.content sink.old) (K.content sink.new) (P.outside platform.old) (P.outside platform.new) status) }
     ensures at_head { OnOk result (IsAtHead (P.outside platform.new) log.new) }
+    ensures settled { OnOk result (IsSettled P.outside P.crash_states platform.new) }
     ensures none { IsNone answered.now.note → log.new ≡ log.old }
     ensures keys { OnOk result (log.new.keys ≡ log.old.keys) }
+    ensures segments { OnOk result (log.new.segments ≡ log.old.segments) }
     ensures sealed { OnlySealed log.old.keys (P.outside platform.old) (P.outside platform.new) }
     ensures count { OnOk result (log.new.head.count ≡ log.old.head.count + length (commits_after log.old.head.count (changes_of_note answered.now.note))) }
-    ensures remembered { IsTrue (P.outside platform.old).tells → OnOk result (Remembers log.old.keys (P.outside platform.old) (P.outside platform.new) (commits_after log.old.head.count (changes_of_note answered.now.note)) []) }
-    ensures may_be_remembered { IsTrue (P.outside platform.old).tells → Remembers log.old.keys (P.outside platform.old) (P.outside platform.new) [] (commits_after log.old.head.count (changes_of_note answered.now.note)) }
+    ensures remembered { IsTrue (P.outside platform.old).tells → OnOk result (Remembers P.outside P.crash_states (store_of log.old) platform.old platform.new (commits_after log.old.head.count (changes_of_note answered.now.note)) []) }
+    ensures may_be_remembered { IsTrue (P.outside platform.old).tells → Remembers P.outside P.crash_states (store_of log.old) platform.old platform.new [] (commits_after log.old.head.count (changes_of_note answered.now.note)) }
     ensures tells { (P.outside platform.new).tells ≡ (P.outside platform.old).tells }
     ensures no_fewer { (P.outside platform.old).faults ≤ (P.outside platform.new).faults }
     ensures sink_tells { (K.content sink.new).tells ≡ (K.content sink.old).tells }
@@ -168,12 +177,13 @@ fn serve_lines<S: Source, K: Sink, P: Platform>(
     session: &mut Session,
 ) -> Status
     requires at_head { IsAtHead (P.outside platform.old) log.old }
+    requires settled { IsSettled P.outside P.crash_states platform.old }
     requires room { HasRoom log.old }
     requires none { unread lines.old ≡ [] }
     requires zero { lines.old.taken ≡ 0 }
     requires first { state_of session.old ≡ fresh }
     ensures served { Served (S.content source.old) (S.content source.new) (K.content sink.old) (K.content sink.new) result }
-    ensures remembered { ServedAll (S.content source.old) (S.content source.new) (K.content sink.old) (K.content sink.new) log.old.keys (P.outside platform.old) (P.outside platform.new) log.old.head.count result }
+    ensures remembered { ServedAll P.outside P.crash_states (S.content source.old) (S.content source.new) (K.content sink.old) (K.content sink.new) (store_of log.old) platform.old platform.new log.old.head.count result }
     ensures script { IsScriptStatus result }
     ensures sealed { OnlySealed log.old.keys (P.outside platform.old) (P.outside platform.new) }
     ensures caused { IsCaused (S.content source.old) (S.content source.new) (K.content sink.old) (K.content sink.new) (P.outside platform.old) (P.outside platform.new) result }
@@ -200,9 +210,10 @@ pub(crate) fn serve<S: Source, K: Sink, P: Platform>(
     log: &mut Log,
 ) -> Status
     requires at_head { IsAtHead (P.outside platform.old) log.old }
+    requires settled { IsSettled P.outside P.crash_states platform.old }
     requires room { HasRoom log.old }
     ensures served { Served (S.content source.old) (S.content source.new) (K.content sink.old) (K.content sink.new) result }
-    ensures remembered { ServedAll (S.content source.old) (S.content source.new) (K.content sink.old) (K.content sink.new) log.old.keys (P.outside platform.old) (P.outside platform.new) log.old.head.count result }
+    ensures remembered { ServedAll P.outside P.crash_states (S.content source.old) (S.content source.new) (K.content sink.old) (K.content sink.new) (store_of log.old) platform.old platform.new log.old.head.count result }
     ensures script { IsScriptStatus result }
     ensures sealed { OnlySealed log.old.keys (P.outside platform.old) (P.outside platform.new) }
     ensures caused { IsCaused (S.content source.old) (S.content source.new) (K.content sink.old) (K.content sink.new) (P.outside platform.old) (P.outside platform.new) result }

@@ -1,7 +1,8 @@
 //! The command `start`: a new store, and then a script.
 ghost use Rattle.std.specs.Prelude.{◌≡◌, ◌≢◌, ◌⊎◌, ◌≤◌, IsTrue, IfOk, IfErr, OnOk, []};
 ghost use Rattle.tdb_run.specs.Acknowledged.{Started};
-ghost use Rattle.tdb_run.specs.History.{Remembers, opening};
+ghost use Rattle.tdb_run.specs.Growth.{IsSettled, Remembers};
+ghost use Rattle.tdb_run.specs.History.{opening};
 ghost use Rattle.tdb_run.specs.LogState.{HasRoom, IsAtHead, IsStopOfCommit};
 ghost use Rattle.tdb_run.specs.OneLine.{Keeps};
 ghost use Rattle.tdb_run.specs.SealedOnly.{OnlySealed};
@@ -30,7 +31,7 @@ pub(crate) fn start<S: Source, K: Sink, P: Platform>(
     ensures caused { IsCaused (S.content source.old) (S.content source.new) (K.content sink.old) (K.content sink.new) (P.outside platform.old) (P.outside platform.new) result }
     ensures keeps { Keeps (S.content source.old) (S.content source.new) (K.content sink.old) (K.content sink.new) (P.outside platform.old) (P.outside platform.new) }
     ensures already_untouched { IsTrue (P.outside platform.old).tells → (P.outside platform.old).anchor.0 ≢ 0 → IsUnwritten (P.outside platform.old) (P.outside platform.new) × (source.new ≡ source.old) }
-    ensures remembered { Started (S.content source.old) (S.content source.new) (K.content sink.old) (K.content sink.new) secret.now (P.outside platform.old) (P.outside platform.new) result }
+    ensures remembered { Started P.outside P.crash_states (S.content source.old) (S.content source.new) (K.content sink.old) (K.content sink.new) (record { secret = secret.now; segments = segments }) platform.old platform.new result }
     ensures sealed { OnlySealed secret.now (P.outside platform.old) (P.outside platform.new) }
     ensures words { result ≢ Usage }
     ensures already { result ≡ AnchorCount → IsTrue (P.outside platform.old).tells → (P.outside platform.old).anchor.0 ≢ 0 }
@@ -56,15 +57,18 @@ fn new_log<P: Platform>(
     segments: u32,
 ) -> Result<Log, Status>
     requires first { IsTrue (P.outside platform.old).tells → (P.outside platform.old).anchor.0 ≡ 0 }
+    requires settled { IsSettled P.outside P.crash_states platform.old }
     requires least { 16 ≤ segments }
     requires most { segments ≤ 4096 }
     ensures ok { IfOk result (λ log. IsAtHead (P.outside platform.new) log) }
+    ensures settled { OnOk result (IsSettled P.outside P.crash_states platform.new) }
     ensures room { IfOk result HasRoom }
     ensures keys { IfOk result (λ log. log.keys ≡ secret.now) }
+    ensures segments { IfOk result (λ log. log.segments ≡ segments) }
     ensures count { IfOk result (λ log. log.head.count ≡ 2) }
     ensures sealed { OnlySealed secret.now (P.outside platform.old) (P.outside platform.new) }
-    ensures opened { IsTrue (P.outside platform.old).tells → OnOk result (Remembers secret.now (P.outside platform.old) (P.outside platform.new) opening []) }
-    ensures may_be_opened { IsTrue (P.outside platform.old).tells → Remembers secret.now (P.outside platform.old) (P.outside platform.new) [] opening }
+    ensures opened { IsTrue (P.outside platform.old).tells → OnOk result (Remembers P.outside P.crash_states (record { secret = secret.now; segments = segments }) platform.old platform.new opening []) }
+    ensures may_be_opened { IsTrue (P.outside platform.old).tells → Remembers P.outside P.crash_states (record { secret = secret.now; segments = segments }) platform.old platform.new [] opening }
     ensures stopped { IfErr result (λ status. IsStopOfCommit (P.outside platform.old) (P.outside platform.new) status) }
     ensures tells { (P.outside platform.new).tells ≡ (P.outside platform.old).tells }
     ensures no_fewer { (P.outside platform.old).faults ≤ (P.outside platform.new).faults }

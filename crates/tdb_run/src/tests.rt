@@ -5,9 +5,9 @@ use std::test::Fail;
 use tdb_platform::{MemoryPlatform, Platform};
 use tdb_stream::{MemorySink, MemorySource};
 
-const SCRIPT: &[u8] = b"begin 1\nnew 1 note hello\ncommit 1\nquit\n";
+pub(crate) const SCRIPT: &[u8] = b"begin 1\nnew 1 note hello\ncommit 1\nquit\n";
 
-const REPLIES: &[u8] = b"begun 1\nmade 1 1\ncommitted 1\nbye\n";
+pub(crate) const REPLIES: &[u8] = b"begun 1\nmade 1 1\ncommitted 1\nbye\n";
 
 const FIRST_TEXT: &[u8] =
     b"\x54\x44\x42\x43\x4d\x54\x30\x31\x00\x00\x00\x02\x00\x00\x00\x00\x00\x00\x00\x00\x00\x00\x00\x01\
@@ -76,14 +76,14 @@ const NOTE_LIST: &[u8] =
 
 /// What a run over memory leaves.
 #[derive(Drop)]
-struct Outcome {
-    status: Status,
-    platform: MemoryPlatform,
-    sink: MemorySink,
+pub(crate) struct Outcome {
+    pub status: Status,
+    pub platform: MemoryPlatform,
+    pub sink: MemorySink,
 }
 
-// Runs words and a script over a fresh device, whose calls and those of the streams with these numbers fail.
-fn run_over_memory(
+/// Runs words and a script over a fresh device, whose calls and those of the streams with these numbers fail.
+pub(crate) fn run_over_memory(
     alloc: Global,
     words: &[&str],
     script: &[u8],

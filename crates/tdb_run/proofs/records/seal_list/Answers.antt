@@ -1,4 +1,4 @@
-use Rattle.std.proofs.Common.{inl, List, ℕ, refl, ◌∙◌, ap, length, arith}
+use Rattle.std.proofs.Common.{inl, inr, List, ℕ, refl, ◌∙◌, ap, length, arith}
 use Rattle.std.proofs.lemmas.Result.{IfOk-weaker}
 use Rattle.tdb_list.specs.ChangeList.{list_bytes}
 use Rattle.tdb_list.proofs.ListSpelling.{length-list_bytes}
@@ -23,7 +23,7 @@ pub returns-clause-is_record : goal.returns-clause-is_record
 returns-clause-is_record c =
     let plain : List ℕ = list_bytes c.args.entries.now in
     IfOk-weaker c.seal_record.result _ _
-    (λ bytes sealed. record { name = list_name; key = system_key c.args.keys.now; plain = plain; key_for = inl (refl, refl); sealed = sealed })
+    (λ bytes sealed. record { name = list_name; key = system_key c.args.keys.now; plain = plain; key_for = inl ((refl, refl, inr refl), refl); sealed = sealed })
     (returns-clause-sealed c)
 
 pub returns-clause-size : goal.returns-clause-size

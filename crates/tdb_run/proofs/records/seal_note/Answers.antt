@@ -27,7 +27,7 @@ returns-clause-sealed c =
 pub returns-clause-is_record : goal.returns-clause-is_record
 returns-clause-is_record c =
     IfOk-weaker c.seal_record.result _ _
-    (λ bytes sealed. record { name = note_name; key = partition_key c.args.keys.now 1 2; plain = stored_note_bytes c.args.note.now; key_for = inr (2, refl); sealed = sealed })
+    (λ bytes sealed. record { name = note_name; key = partition_key c.args.keys.now 1 2; plain = stored_note_bytes c.args.note.now; key_for = inr ((refl, omega arith, omega arith, omega arith), (2, omega arith, refl)); sealed = sealed })
     (returns-clause-sealed c)
 
 pub returns-clause-some : goal.returns-clause-some

@@ -1,10 +1,12 @@
-use Rattle.std.proofs.Common.{[], arith, refl}
+use Rattle.std.proofs.Common.{[], inl, refl}
 use Rattle.tdb_run.specs.SessionState.{answer_of}
+use Rattle.tdb_run.specs.LogState.{store_of}
 use Rattle.tdb_run.proofs.Remembering.{remembers_itself}
 use Rattle.tdb_run.proofs.serving.answer_one.Goals as goal
 
-pub returns-in-Err-clause-may_be_remembered : goal.returns-in-Err-clause-may_be_remembered
-returns-in-Err-clause-may_be_remembered g c tells = ([], omega arith, remembers_itself c.args.log.now.keys (g.P.Platform.outside c.args.platform.now))
+pub returns-in-Err-clause-stops_behind : goal.returns-in-Err-clause-stops_behind
+returns-in-Err-clause-stops_behind g c =
+    inl (refl, c.in-Err.ensures.stopped, λ told. remembers_itself g.P.Platform.outside g.P.Platform.crash_states g.met.P.Platform.counts (store_of c.args.log.now) c.args.platform.now [] told c.requires.settled)
 
 pub returns-in-Ok-finish_line-clause-acknowledged : goal.returns-in-Ok-finish_line-clause-acknowledged
 returns-in-Ok-finish_line-clause-acknowledged g c = record {

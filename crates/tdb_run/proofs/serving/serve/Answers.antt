@@ -1,4 +1,5 @@
-use Rattle.std.proofs.Common.{[], arith}
+use Rattle.std.proofs.Common.{[], inl, refl}
+use Rattle.tdb_run.specs.LogState.{store_of}
 use Rattle.tdb_run.proofs.Remembering.{remembers_itself}
 use Rattle.tdb_run.proofs.Conversing.{served_none}
 use Rattle.tdb_run.proofs.serving.serve.Goals as goal
@@ -9,5 +10,7 @@ returns-in_default-clause-served g c = served_none _ _ _ tt
 pub returns-in_default-clause-remembered : goal.returns-in_default-clause-remembered
 returns-in_default-clause-remembered g c = record {
   served = served_none _ _ _ tt;
-  remembered = λ told. ([], omega arith, remembers_itself c.args.log.now.keys (g.P.Platform.outside c.args.platform.now));
+  maybe = [];
+  next = inl refl;
+  remembered = λ told. remembers_itself g.P.Platform.outside g.P.Platform.crash_states g.met.P.Platform.counts (store_of c.args.log.now) c.args.platform.now [] told c.requires.settled;
 }

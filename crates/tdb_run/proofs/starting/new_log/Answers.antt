@@ -1,7 +1,10 @@
 use Rattle.std.proofs.Common.{ℕ, ◌+◌, List, [], ◌∷◌, IsTrue, sym, subst}
-use Rattle.tdb_run.specs.Change.{make}
-use Rattle.tdb_run.specs.History.{Added, Remembers, opening}
-use Rattle.tdb_run.proofs.Remembering.{remembers_ok, remembers_any, remembers_along}
+use Rattle.tdb_base.specs.declared.suite.Suite.TheVariants.{Plain}
+use Rattle.tdb_model.specs.Opening.{opening_changes}
+use Rattle.tdb_run.specs.Growth.{Added, Remembers}
+use Rattle.tdb_run.specs.History.{Store, opening}
+use Rattle.tdb_run.proofs.Acknowledging.{same_store}
+use Rattle.tdb_run.proofs.Remembering.{remembers_ok, remembers_any, remembers_none, remembers_along}
 use Rattle.tdb_run.specs.SealedOnly.{OnlySealed}
 use Rattle.tdb_run.proofs.SealedAlong.{only_sealed_along}
 use Rattle.tdb_run.proofs.starting.new_log.Goals as goal
@@ -18,40 +21,48 @@ returns-in-Err-make_partitions-clause-sealed g c =
 
 pub returns-in-Ok-make_partitions-clause-opened : goal.returns-in-Ok-make_partitions-clause-opened
 returns-in-Ok-make_partitions-clause-opened g c tells =
-    let secret : List ℕ = c.args.secret.now in
-    let old = g.P.Platform.outside c.args.platform.now in
-    let mid = g.P.Platform.outside c.format.new.platform in
-    let new = g.P.Platform.outside c.make_partitions.new.platform in
-    let told : IsTrue mid.tells = subst IsTrue (sym c.format.ensures.tells) tells in
-    let begun : Remembers secret old mid [] [] = remembers_ok secret old mid [] c.format.result c.in-Ok.log c.in-Ok.is (c.format.ensures.history tells) in
-    let keyed = subst (λ (s : List ℕ). Added s mid new ((c.in-Ok.log.head.count + 1, make 1 0 ∷ make 2 0 ∷ []) ∷ []) c.make_partitions.result) c.in-Ok.ensures.start.0 (c.make_partitions.ensures.history told) in
-    let opened : Added secret mid new opening c.make_partitions.result =
-    subst (λ (n : ℕ). Added secret mid new ((n + 1, make 1 0 ∷ make 2 0 ∷ []) ∷ []) c.make_partitions.result) c.in-Ok.ensures.start.1 keyed in
-    remembers_along secret old mid new [] opening [] (g.met.P.Platform.numbered c.format.new.platform told) begun
-    (remembers_ok secret mid new opening c.make_partitions.result c.in-Ok-make_partitions.field-0 c.in-Ok-make_partitions.is opened)
+    let store : Store = record { secret = c.args.secret.now; segments = c.args.segments } in
+    let old = c.args.platform.now in
+    let mid = c.format.new.platform in
+    let new = c.make_partitions.new.platform in
+    let told : IsTrue (g.P.Platform.outside mid).tells = subst IsTrue (sym c.format.ensures.tells) tells in
+    let begun : Remembers g.P.Platform.outside g.P.Platform.crash_states store old mid [] [] = remembers_ok g.P.Platform.outside g.P.Platform.crash_states g.met.P.Platform.counts store old mid [] c.format.result c.in-Ok.log c.in-Ok.is (c.format.ensures.history tells) in
+    let start = c.in-Ok.ensures.start in
+    let keyed = subst (λ (s : Store). Added g.P.Platform.outside g.P.Platform.crash_states s mid new ((c.in-Ok.log.head.count + 1, opening_changes Plain) ∷ []) c.make_partitions.result) (same_store c.in-Ok.log store start.0 start.3) (c.make_partitions.ensures.history told) in
+    let opened : Added g.P.Platform.outside g.P.Platform.crash_states store mid new opening c.make_partitions.result =
+    subst (λ (n : ℕ). Added g.P.Platform.outside g.P.Platform.crash_states store mid new ((n + 1, opening_changes Plain) ∷ []) c.make_partitions.result) start.1 keyed in
+    remembers_along g.P.Platform.outside g.P.Platform.crash_states g.met.P.Platform.counts store old mid new [] opening [] (g.met.P.Platform.numbered mid told) begun
+    (remembers_ok g.P.Platform.outside g.P.Platform.crash_states g.met.P.Platform.counts store mid new opening c.make_partitions.result c.in-Ok-make_partitions.field-0 c.in-Ok-make_partitions.is opened)
 
 pub returns-in-Ok-make_partitions-clause-may_be_opened : goal.returns-in-Ok-make_partitions-clause-may_be_opened
 returns-in-Ok-make_partitions-clause-may_be_opened g c tells =
-    let secret : List ℕ = c.args.secret.now in
-    let old = g.P.Platform.outside c.args.platform.now in
-    let mid = g.P.Platform.outside c.format.new.platform in
-    let new = g.P.Platform.outside c.make_partitions.new.platform in
-    let told : IsTrue mid.tells = subst IsTrue (sym c.format.ensures.tells) tells in
-    let begun : Remembers secret old mid [] [] = remembers_ok secret old mid [] c.format.result c.in-Ok.log c.in-Ok.is (c.format.ensures.history tells) in
-    let keyed = subst (λ (s : List ℕ). Added s mid new ((c.in-Ok.log.head.count + 1, make 1 0 ∷ make 2 0 ∷ []) ∷ []) c.make_partitions.result) c.in-Ok.ensures.start.0 (c.make_partitions.ensures.history told) in
-    let opened : Added secret mid new opening c.make_partitions.result =
-    subst (λ (n : ℕ). Added secret mid new ((n + 1, make 1 0 ∷ make 2 0 ∷ []) ∷ []) c.make_partitions.result) c.in-Ok.ensures.start.1 keyed in
-    remembers_along secret old mid new [] [] opening (g.met.P.Platform.numbered c.format.new.platform told) begun (remembers_any secret mid new opening c.make_partitions.result opened)
+    let store : Store = record { secret = c.args.secret.now; segments = c.args.segments } in
+    let old = c.args.platform.now in
+    let mid = c.format.new.platform in
+    let new = c.make_partitions.new.platform in
+    let told : IsTrue (g.P.Platform.outside mid).tells = subst IsTrue (sym c.format.ensures.tells) tells in
+    let begun : Remembers g.P.Platform.outside g.P.Platform.crash_states store old mid [] [] = remembers_ok g.P.Platform.outside g.P.Platform.crash_states g.met.P.Platform.counts store old mid [] c.format.result c.in-Ok.log c.in-Ok.is (c.format.ensures.history tells) in
+    let start = c.in-Ok.ensures.start in
+    let keyed = subst (λ (s : Store). Added g.P.Platform.outside g.P.Platform.crash_states s mid new ((c.in-Ok.log.head.count + 1, opening_changes Plain) ∷ []) c.make_partitions.result) (same_store c.in-Ok.log store start.0 start.3) (c.make_partitions.ensures.history told) in
+    let opened : Added g.P.Platform.outside g.P.Platform.crash_states store mid new opening c.make_partitions.result =
+    subst (λ (n : ℕ). Added g.P.Platform.outside g.P.Platform.crash_states store mid new ((n + 1, opening_changes Plain) ∷ []) c.make_partitions.result) start.1 keyed in
+    remembers_along g.P.Platform.outside g.P.Platform.crash_states g.met.P.Platform.counts store old mid new [] [] opening (g.met.P.Platform.numbered mid told) begun (remembers_any g.P.Platform.outside g.P.Platform.crash_states g.met.P.Platform.counts store mid new opening c.make_partitions.result opened)
 
 pub returns-in-Err-make_partitions-clause-may_be_opened : goal.returns-in-Err-make_partitions-clause-may_be_opened
 returns-in-Err-make_partitions-clause-may_be_opened g c tells =
-    let secret : List ℕ = c.args.secret.now in
-    let old = g.P.Platform.outside c.args.platform.now in
-    let mid = g.P.Platform.outside c.format.new.platform in
-    let new = g.P.Platform.outside c.make_partitions.new.platform in
-    let told : IsTrue mid.tells = subst IsTrue (sym c.format.ensures.tells) tells in
-    let begun : Remembers secret old mid [] [] = remembers_ok secret old mid [] c.format.result c.in-Ok.log c.in-Ok.is (c.format.ensures.history tells) in
-    let keyed = subst (λ (s : List ℕ). Added s mid new ((c.in-Ok.log.head.count + 1, make 1 0 ∷ make 2 0 ∷ []) ∷ []) c.make_partitions.result) c.in-Ok.ensures.start.0 (c.make_partitions.ensures.history told) in
-    let opened : Added secret mid new opening c.make_partitions.result =
-    subst (λ (n : ℕ). Added secret mid new ((n + 1, make 1 0 ∷ make 2 0 ∷ []) ∷ []) c.make_partitions.result) c.in-Ok.ensures.start.1 keyed in
-    remembers_along secret old mid new [] [] opening (g.met.P.Platform.numbered c.format.new.platform told) begun (remembers_any secret mid new opening c.make_partitions.result opened)
+    let store : Store = record { secret = c.args.secret.now; segments = c.args.segments } in
+    let old = c.args.platform.now in
+    let mid = c.format.new.platform in
+    let new = c.make_partitions.new.platform in
+    let told : IsTrue (g.P.Platform.outside mid).tells = subst IsTrue (sym c.format.ensures.tells) tells in
+    let begun : Remembers g.P.Platform.outside g.P.Platform.crash_states store old mid [] [] = remembers_ok g.P.Platform.outside g.P.Platform.crash_states g.met.P.Platform.counts store old mid [] c.format.result c.in-Ok.log c.in-Ok.is (c.format.ensures.history tells) in
+    let start = c.in-Ok.ensures.start in
+    let keyed = subst (λ (s : Store). Added g.P.Platform.outside g.P.Platform.crash_states s mid new ((c.in-Ok.log.head.count + 1, opening_changes Plain) ∷ []) c.make_partitions.result) (same_store c.in-Ok.log store start.0 start.3) (c.make_partitions.ensures.history told) in
+    let opened : Added g.P.Platform.outside g.P.Platform.crash_states store mid new opening c.make_partitions.result =
+    subst (λ (n : ℕ). Added g.P.Platform.outside g.P.Platform.crash_states store mid new ((n + 1, opening_changes Plain) ∷ []) c.make_partitions.result) start.1 keyed in
+    remembers_along g.P.Platform.outside g.P.Platform.crash_states g.met.P.Platform.counts store old mid new [] [] opening (g.met.P.Platform.numbered mid told) begun (remembers_any g.P.Platform.outside g.P.Platform.crash_states g.met.P.Platform.counts store mid new opening c.make_partitions.result opened)
+
+pub returns-in-Err-clause-may_be_opened : goal.returns-in-Err-clause-may_be_opened
+returns-in-Err-clause-may_be_opened g c tells =
+    let store : Store = record { secret = c.args.secret.now; segments = c.args.segments } in
+    remembers_none g.P.Platform.outside g.P.Platform.crash_states g.met.P.Platform.counts store c.args.platform.now c.format.new.platform opening c.format.result (c.format.ensures.history tells)

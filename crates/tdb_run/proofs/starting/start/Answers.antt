@@ -1,10 +1,8 @@
-use Rattle.std.proofs.Common.{◌≡◌, ℕ, List, [], IsTrue, arith, sym, subst, ◌∙◌}
-use Rattle.tdb_base.specs.Trace.{Trace, Extends}
-use Rattle.tdb_base.proofs.Tracing.{extends_itself}
-use Rattle.tdb_platform.specs.Outside.{Outside}
-use Rattle.tdb_run.specs.History.{Remembers, opening}
-use Rattle.tdb_run.proofs.Acknowledging.{started_none, started_served}
-use Rattle.tdb_run.proofs.Remembering.{remembers_along, remembers_same}
+use Rattle.std.proofs.Common.{ℕ, List, [], inl, inr, IsTrue, refl, sym, subst, ◌∙◌}
+use Rattle.tdb_run.specs.History.{opening}
+use Rattle.tdb_run.specs.LogState.{store_of}
+use Rattle.tdb_run.proofs.Acknowledging.{same_store, started_none, started_served}
+use Rattle.tdb_run.proofs.Remembering.{remembers_itself, run_remembers, run_remembers_nothing}
 use Rattle.tdb_run.proofs.Conversing.{served_none, stop_at_once}
 use Rattle.tdb_run.specs.SealedOnly.{OnlySealed}
 use Rattle.tdb_run.proofs.SealedAlong.{only_sealed_along, only_sealed_same}
@@ -26,46 +24,36 @@ returns-clause-sealed g c =
     (only_sealed_along c.args.secret.now (g.P.Platform.outside c.args.platform.now) (g.P.Platform.outside c.anchor.new.self) (g.P.Platform.outside c.new_log.new.platform) c.anchor.ensures.told.tells (only_sealed_same c.args.secret.now (g.P.Platform.outside c.args.platform.now) (g.P.Platform.outside c.anchor.new.self) c.anchor.ensures.trace) c.new_log.ensures.sealed)
     (subst (λ (keys : List ℕ). OnlySealed keys (g.P.Platform.outside c.new_log.new.platform) (g.P.Platform.outside c.serve.new.platform)) c.in-Ok-new_log.ensures.keys c.serve.ensures.sealed)
 
--- A look at the anchor forgets nothing.
-looked : (secret : List ℕ) (old new : Outside) → (IsTrue old.tells → new.trace ≡ old.trace) → (IsTrue old.tells → new.anchor ≡ old.anchor) → IsTrue old.tells → Remembers secret old new [] []
-looked secret old new trace anchor told = remembers_same secret old new (subst (λ (t : Trace). Extends old.trace t) (sym (trace told)) (extends_itself old.trace)) (anchor told)
-
 pub returns-in-Err-clause-remembered : goal.returns-in-Err-clause-remembered
 returns-in-Err-clause-remembered g c =
-    let old = g.P.Platform.outside c.args.platform.now in
-    let new = g.P.Platform.outside c.anchor.new.self in
-    started_none _ _ c.args.secret.now old new _ tt (λ told. ([], omega arith, looked c.args.secret.now old new c.anchor.ensures.trace c.anchor.ensures.anchor told))
+    let old = c.args.platform.now in
+    let new = c.anchor.new.self in
+    started_none g.P.Platform.outside g.P.Platform.crash_states _ _ (record { secret = c.args.secret.now; segments = c.args.segments }) old new [] (inl refl)
+    (λ told. run_remembers_nothing g.P.Platform.outside g.P.Platform.crash_states g.met.P.Platform.counts (record { secret = c.args.secret.now; segments = c.args.segments }) old new (c.anchor.ensures.trace told) (c.anchor.ensures.anchor told) c.anchor.ensures.time c.anchor.ensures.now) _ tt
 
 pub returns-in-Ok-clause-remembered : goal.returns-in-Ok-clause-remembered
 returns-in-Ok-clause-remembered g c =
-    let old = g.P.Platform.outside c.args.platform.now in
-    let new = g.P.Platform.outside c.anchor.new.self in
-    started_none _ _ c.args.secret.now old new _ tt (λ told. ([], omega arith, looked c.args.secret.now old new c.anchor.ensures.trace c.anchor.ensures.anchor told))
+    let old = c.args.platform.now in
+    let new = c.anchor.new.self in
+    started_none g.P.Platform.outside g.P.Platform.crash_states _ _ (record { secret = c.args.secret.now; segments = c.args.segments }) old new [] (inl refl)
+    (λ told.
+    let on : IsTrue (g.P.Platform.outside new).tells = subst IsTrue (sym c.anchor.ensures.told.tells) told in
+    run_remembers g.P.Platform.outside g.P.Platform.crash_states g.met.P.Platform.counts (record { secret = c.args.secret.now; segments = c.args.segments }) old new new [] [] (c.anchor.ensures.trace told) (c.anchor.ensures.anchor told) c.anchor.ensures.time c.anchor.ensures.now
+    (remembers_itself g.P.Platform.outside g.P.Platform.crash_states g.met.P.Platform.counts (record { secret = c.args.secret.now; segments = c.args.segments }) new [] on (λ again. c.in-Ok.ensures.settled told))) _ tt
 
 pub returns-in-Err-new_log-clause-remembered : goal.returns-in-Err-new_log-clause-remembered
 returns-in-Err-new_log-clause-remembered g c =
-    let old = g.P.Platform.outside c.args.platform.now in
-    let mid = g.P.Platform.outside c.anchor.new.self in
-    let new = g.P.Platform.outside c.new_log.new.platform in
-    started_none _ _ c.args.secret.now old new _ (stop_at_once mid new c.in-Err-new_log.status c.in-Err-new_log.ensures.stopped)
+    let old = c.args.platform.now in
+    let first = c.anchor.new.self in
+    let new = c.new_log.new.platform in
+    started_none g.P.Platform.outside g.P.Platform.crash_states _ _ (record { secret = c.args.secret.now; segments = c.args.segments }) old new opening (inr refl)
     (λ told.
-    let on : IsTrue mid.tells = subst IsTrue (sym c.anchor.ensures.told.tells) told in (
-      opening,
-      omega arith,
-      remembers_along c.args.secret.now old mid new [] [] opening (g.met.P.Platform.numbered c.anchor.new.self on)
-          (looked c.args.secret.now old mid c.anchor.ensures.trace c.anchor.ensures.anchor told) (c.new_log.ensures.may_be_opened on),
-    ))
+    let on : IsTrue (g.P.Platform.outside first).tells = subst IsTrue (sym c.anchor.ensures.told.tells) told in
+    run_remembers g.P.Platform.outside g.P.Platform.crash_states g.met.P.Platform.counts (record { secret = c.args.secret.now; segments = c.args.segments }) old first new [] opening (c.anchor.ensures.trace told) (c.anchor.ensures.anchor told) c.anchor.ensures.time c.anchor.ensures.now
+    (c.new_log.ensures.may_be_opened on)) _ (stop_at_once (g.P.Platform.outside first) (g.P.Platform.outside new) c.in-Err-new_log.status c.in-Err-new_log.ensures.stopped)
 
 pub returns-clause-remembered : goal.returns-clause-remembered
 returns-clause-remembered g c =
-    let old = g.P.Platform.outside c.args.platform.now in
-    let first = g.P.Platform.outside c.anchor.new.self in
-    let mid = g.P.Platform.outside c.new_log.new.platform in
-    let new = g.P.Platform.outside c.serve.new.platform in
-    started_served _ _ _ _ c.args.secret.now c.in-Ok-new_log.log.keys old mid new c.in-Ok-new_log.log.head.count _ c.in-Ok-new_log.ensures.keys c.in-Ok-new_log.ensures.count
-    (c.new_log.ensures.tells ∙ c.anchor.ensures.told.tells) (λ on. g.met.P.Platform.numbered c.new_log.new.platform on)
-    (λ told.
-    let on : IsTrue first.tells = subst IsTrue (sym c.anchor.ensures.told.tells) told in
-    remembers_along c.args.secret.now old first mid [] opening [] (g.met.P.Platform.numbered c.anchor.new.self on)
-    (looked c.args.secret.now old first c.anchor.ensures.trace c.anchor.ensures.anchor told) (c.in-Ok-new_log.ensures.opened on))
-    c.serve.ensures.remembered
+    started_served g.P.Platform.outside g.P.Platform.crash_states g.met.P.Platform.counts g.met.P.Platform.numbered (record { secret = c.args.secret.now; segments = c.args.segments }) (store_of c.in-Ok-new_log.log) c.args.platform.now c.anchor.new.self c.new_log.new.platform c.serve.new.platform
+    _ _ _ _ c.in-Ok-new_log.log.head.count _ (same_store c.in-Ok-new_log.log (record { secret = c.args.secret.now; segments = c.args.segments }) c.in-Ok-new_log.ensures.keys c.in-Ok-new_log.ensures.segments) c.in-Ok-new_log.ensures.count c.anchor.ensures.told.tells c.new_log.ensures.tells c.anchor.ensures.trace c.anchor.ensures.anchor
+    c.anchor.ensures.time c.anchor.ensures.now c.in-Ok-new_log.ensures.opened c.serve.ensures.remembered

@@ -1,10 +1,12 @@
-use Rattle.std.proofs.Common.{inl, ℕ, ◌+◌, List, [], ◌∷◌, sym, ◌∙◌, ap, subst, rules}
+use Rattle.std.proofs.Common.{inl, ℕ, ◌+◌, List, [], ◌∷◌, sym, ◌∙◌, ap, subst}
 use Rattle.tdb_append.specs.Placed.{Placed, placed}
 use Rattle.tdb_base.specs.declared.piece.Piece.{Piece}
 use Rattle.tdb_mark.specs.declared.commit.Commit.{Commit}
-use Rattle.tdb_run.specs.History.{Adds, History}
+use Rattle.tdb_model.specs.Apply.{History}
+use Rattle.tdb_run.specs.History.{Adds}
 use Rattle.tdb_run.specs.LaidOut.{in_pieces}
-use Rattle.tdb_run.proofs.Histories.{list_adds, none_added}
+use Rattle.tdb_run.proofs.Histories.{list_adds}
+use Rattle.tdb_run.proofs.Remembering.{none_added}
 use Rattle.tdb_run.proofs.log.Log.commit.Goals as goal
 
 pub returns-clause-history : goal.returns-clause-history
@@ -22,7 +24,7 @@ returns-clause-history g c tells changes are =
     (subst (λ (ps : List Placed). Adds (in_pieces ps) secret commit added) (sym c.in_ok-first.ensures.pieces) adds)
 
 pub returns-in_err-list-clause-history : goal.returns-in_err-list-clause-history
-returns-in_err-list-clause-history g c tells changes are = none_added _ _ _ c.from_residual.result c.from_residual.ensures.0
+returns-in_err-list-clause-history g c tells changes are = none_added g.P.Platform.outside g.P.Platform.crash_states g.met.P.Platform.counts _ c.args.platform.now _ _ tells c.requires.settled c.from_residual.ensures.0
 
 pub returns-in_err-first-clause-history : goal.returns-in_err-first-clause-history
-returns-in_err-first-clause-history g c tells changes are = search (rules, none_added)
+returns-in_err-first-clause-history g c tells changes are = none_added g.P.Platform.outside g.P.Platform.crash_states g.met.P.Platform.counts _ c.args.platform.now _ _ tells c.requires.settled c.from_residual-in_err-first.ensures.0

@@ -1,15 +1,17 @@
-use Rattle.std.proofs.Common.{◌≡◌, ℕ, List, [], ◌∷◌, length, sym, ◌∙◌, ap, subst, arith, rules}
+use Rattle.std.proofs.Common.{◌≡◌, ℕ, List, [], ◌∷◌, length, sym, ◌∙◌, ap, subst, arith}
 use Rattle.tdb_base.specs.declared.piece.Piece.{Piece}
 use Rattle.tdb_base.specs.declared.piece.Place.{Place}
 use Rattle.tdb_list.specs.declared.entry.Entry.{Entry}
 use Rattle.tdb_list.specs.ChangeList.{IsList}
 use Rattle.tdb_append.specs.Placed.{Placed, placed}
 use Rattle.tdb_script.specs.NoteText.{stored_note_bytes}
-use Rattle.tdb_run.specs.Change.{Change, write}
+use Rattle.tdb_model.specs.declared.change.Change.{Change}
+use Rattle.tdb_run.specs.Session.{write_of_note}
 use Rattle.tdb_run.specs.History.{AreChangesOf}
 use Rattle.tdb_run.specs.LaidOut.{in_pieces}
 use Rattle.tdb_run.specs.Records.{note_entry}
-use Rattle.tdb_run.proofs.Histories.{note_changes, none_added}
+use Rattle.tdb_run.proofs.Histories.{note_changes}
+use Rattle.tdb_run.proofs.Remembering.{none_added}
 use Rattle.tdb_run.proofs.Sealing.{note_is_list}
 use Rattle.tdb_run.proofs.log.Log.commit_note.Goals as goal
 
@@ -26,18 +28,18 @@ returns-clause-history g c tells =
     let secret : List ℕ = c.args.self.now.keys in
     let plain : List ℕ = stored_note_bytes c.args.note.now in
     let piece : Piece = c.in_ok-piece.piece in
-    let changes : List Change = write 1 1 plain ∷ [] in
-    let are = note_changes secret c.in_ok-batch.batch.tail.0 (placed c.in_ok-batch.batch.pieces.items) piece c.in_ok-chunk.chunk.items plain
+    let changes : List Change = write_of_note c.args.note.now ∷ [] in
+    let are = note_changes secret c.in_ok-batch.batch.tail.0 (placed c.in_ok-batch.batch.pieces.items) piece c.in_ok-chunk.chunk.items c.args.note.now
     (sym (ap (λ (p : Piece). p.digest.0) c.in_ok-piece.ensures.piece)) c.in_ok-chunk.ensures.sealed in
     let laid = subst (λ (ps : List Placed). AreChangesOf (in_pieces ps) secret (note_entry piece ∷ []) changes) (sym c.in_ok-piece.ensures.pieces) are in
     c.commit.ensures.history tells changes
     (subst (λ (e : Entry). AreChangesOf (in_pieces (placed c.lay.new.self.pieces.items)) secret (e ∷ []) changes) (sym c.write_note.ensures) laid)
 
 pub returns-in_err-chunk-clause-history : goal.returns-in_err-chunk-clause-history
-returns-in_err-chunk-clause-history g c tells = search (rules, none_added)
+returns-in_err-chunk-clause-history g c tells = none_added g.P.Platform.outside g.P.Platform.crash_states g.met.P.Platform.counts _ c.args.platform.now _ _ tells c.requires.settled c.from_residual.ensures.0
 
 pub returns-in_err-batch-clause-history : goal.returns-in_err-batch-clause-history
-returns-in_err-batch-clause-history g c tells = search (rules, none_added)
+returns-in_err-batch-clause-history g c tells = none_added g.P.Platform.outside g.P.Platform.crash_states g.met.P.Platform.counts _ c.args.platform.now _ _ tells c.requires.settled c.from_residual-in_err-batch.ensures.0
 
 pub returns-in_err-piece-clause-history : goal.returns-in_err-piece-clause-history
-returns-in_err-piece-clause-history g c tells = search (rules, none_added)
+returns-in_err-piece-clause-history g c tells = none_added g.P.Platform.outside g.P.Platform.crash_states g.met.P.Platform.counts _ c.args.platform.now _ _ tells c.requires.settled c.from_residual-in_err-piece.ensures.0

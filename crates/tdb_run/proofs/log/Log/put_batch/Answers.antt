@@ -4,13 +4,12 @@ use Rattle.tdb_append.specs.declared.laid.Laid.{Laid}
 use Rattle.tdb_append.specs.Placed.{FitsOneSegment, IsApart, placed}
 use Rattle.tdb_append.specs.Put.{slot_place}
 use Rattle.tdb_mark.specs.CommitText.{commit_key_of, commit_text}
-use Rattle.tdb_run.specs.SealedOnly.{IsText}
-use Rattle.std.specs.Prelude.{is_ok}
-use Rattle.std.proofs.Common.{inl, inr, ⊎_elim}
+use Rattle.tdb_run.specs.LogState.{store_of}
+use Rattle.tdb_run.specs.SealedOnly.{IsTextInSlot}
 use Rattle.tdb_mark.specs.CommitText.{commit_of}
 use Rattle.tdb_mark.proofs.TextLemmas.{commit_of-commit_text}
 use Rattle.tdb_base.specs.declared.piece.Digest.{Digest}
-use Rattle.tdb_run.proofs.Histories.{put_adds, put_stays, put_grows}
+use Rattle.tdb_run.proofs.Growing.{put_added, added_ok, added_err}
 use Rattle.tdb_run.proofs.Laying.{put_sealed}
 use Rattle.tdb_run.proofs.log.Log.put_batch.Goals as goal
 
@@ -27,7 +26,8 @@ returns-in-Ok-clause-sealed g c tells =
     let text : List ℕ = c.write_commit_with-text.result in
     let spelled : text ≡ commit_text (commit_key_of secret) c.args.commit.now =
     c.write_commit_with-text.ensures ∙ ap (λ (key : List ℕ). commit_text key c.args.commit.now) c.commit.ensures in
-    let is : IsText secret text = record { commit = c.args.commit.now; value = c.requires.value; spelled = record { in_format = c.requires.in_format; spelled = spelled } } in
+    let is : IsTextInSlot secret (slot_place (c.args.self.now.head.count + 1)) text =
+    record { commit = c.args.commit.now; value = c.requires.value; spelled = record { in_format = c.requires.in_format; spelled = spelled }; slot = ap slot_place (sym c.requires.next_count) } in
     put_sealed secret c.args.batch.tail.0 c.args.self.now.head.count (placed c.args.batch.pieces.items) puts.done puts.rest text
     (g.P.Platform.outside c.args.platform.now).trace (g.P.Platform.outside c.put.new.platform).trace
     c.requires.laid_out is
@@ -41,7 +41,8 @@ returns-clause-sealed g c tells =
     let text : List ℕ = c.write_commit_with-text.result in
     let spelled : text ≡ commit_text (commit_key_of secret) c.args.commit.now =
     c.write_commit_with-text.ensures ∙ ap (λ (key : List ℕ). commit_text key c.args.commit.now) c.commit.ensures in
-    let is : IsText secret text = record { commit = c.args.commit.now; value = c.requires.value; spelled = record { in_format = c.requires.in_format; spelled = spelled } } in
+    let is : IsTextInSlot secret (slot_place (c.args.self.now.head.count + 1)) text =
+    record { commit = c.args.commit.now; value = c.requires.value; spelled = record { in_format = c.requires.in_format; spelled = spelled }; slot = ap slot_place (sym c.requires.next_count) } in
     put_sealed secret c.args.batch.tail.0 c.args.self.now.head.count (placed c.args.batch.pieces.items) puts.done puts.rest text
     (g.P.Platform.outside c.args.platform.now).trace (g.P.Platform.outside c.put.new.platform).trace
     c.requires.laid_out is
@@ -50,9 +51,6 @@ returns-clause-sealed g c tells =
 
 pub returns-in-Ok-clause-history : goal.returns-in-Ok-clause-history
 returns-in-Ok-clause-history g c tells at added adds =
-    let puts = c.put.ensures.puts in
-    let old = g.P.Platform.outside c.args.platform.now in
-    let new = g.P.Platform.outside c.put.new.platform in
     let secret : List ℕ = c.args.self.now.keys in
     let n : ℕ = c.args.self.now.head.count in
     let mark : List ℕ = c.args.self.now.head.mark.0 in
@@ -62,18 +60,13 @@ returns-in-Ok-clause-history g c tells at added adds =
     c.write_commit_with-text.ensures ∙ ap (λ (key : List ℕ). commit_text key c.args.commit.now) c.commit.ensures in
     let reads = ap (commit_of (commit_key_of secret)) spelled ∙ commit_of-commit_text (commit_key_of secret) c.args.commit.now c.requires.value c.requires.in_format in
     let prev = ap (λ (d : Digest). d.0) c.requires.next_mark in
-    let in_order = ap (λ (l : List Laid). placed l ++ record { place = slot_place (n + 1); bytes = text } ∷ []) (sym c.deref.ensures.value) ∙ puts.in_order in
-    let advances = put_adds secret old new n mark text ps puts.done puts.rest c.args.commit.now added reads c.requires.next_count prev c.requires.start adds in_order (puts.wrote.trace tells) (c.requires.count tells) at in
-    record {
-      grows = put_grows secret old new n mark text ps puts.done puts.rest c.args.commit.now (puts.wrote.trace tells);
-      history = λ unforged before is. inl (advances (puts.complete (ap is_ok c.in-Ok.is)) (c.in-Ok.ensures.advanced tells) unforged before is);
-    }
+    let all = ap (λ (l : List Laid). placed l ++ record { place = slot_place (n + 1); bytes = text } ∷ []) (sym c.deref.ensures.value) in
+    added_ok g.P.Platform.outside g.P.Platform.crash_states (store_of c.args.self.now) c.args.platform.now c.put.new.platform added c.put.result _ c.in-Ok.head c.in-Ok.is
+    (put_added g.P.Platform.outside g.P.Platform.crash_states g.met.P.Platform.counts (store_of c.args.self.now) c.args.platform.now c.put.new.platform n mark text ps _ c.args.commit.now added reads c.requires.next_count prev c.requires.start adds c.requires.same_segments all tells
+    (c.requires.count tells) at c.requires.settled c.put.result c.put.ensures.puts (c.put.ensures.advanced tells) (c.put.ensures.only tells))
 
 pub returns-clause-history : goal.returns-clause-history
 returns-clause-history g c tells at added adds =
-    let puts = c.put.ensures.puts in
-    let old = g.P.Platform.outside c.args.platform.now in
-    let new = g.P.Platform.outside c.put.new.platform in
     let secret : List ℕ = c.args.self.now.keys in
     let n : ℕ = c.args.self.now.head.count in
     let mark : List ℕ = c.args.self.now.head.mark.0 in
@@ -83,11 +76,7 @@ returns-clause-history g c tells at added adds =
     c.write_commit_with-text.ensures ∙ ap (λ (key : List ℕ). commit_text key c.args.commit.now) c.commit.ensures in
     let reads = ap (commit_of (commit_key_of secret)) spelled ∙ commit_of-commit_text (commit_key_of secret) c.args.commit.now c.requires.value c.requires.in_format in
     let prev = ap (λ (d : Digest). d.0) c.requires.next_mark in
-    let in_order = ap (λ (l : List Laid). placed l ++ record { place = slot_place (n + 1); bytes = text } ∷ []) (sym c.deref.ensures.value) ∙ puts.in_order in
-    let advances = put_adds secret old new n mark text ps puts.done puts.rest c.args.commit.now added reads c.requires.next_count prev c.requires.start adds in_order (puts.wrote.trace tells) (c.requires.count tells) at in
-    record {
-      grows = put_grows secret old new n mark text ps puts.done puts.rest c.args.commit.now (puts.wrote.trace tells);
-      history = λ unforged before is.
-          ⊎_elim (λ same. inr (refl, put_stays secret old new n mark text ps puts.done puts.rest c.args.commit.now (puts.wrote.trace tells) same before is))
-          (λ next. inl (advances next.1 next.0 unforged before is)) (puts.anchor tells);
-    }
+    let all = ap (λ (l : List Laid). placed l ++ record { place = slot_place (n + 1); bytes = text } ∷ []) (sym c.deref.ensures.value) in
+    added_err g.P.Platform.outside g.P.Platform.crash_states (store_of c.args.self.now) c.args.platform.now c.put.new.platform added c.put.result _ refl
+    (put_added g.P.Platform.outside g.P.Platform.crash_states g.met.P.Platform.counts (store_of c.args.self.now) c.args.platform.now c.put.new.platform n mark text ps _ c.args.commit.now added reads c.requires.next_count prev c.requires.start adds c.requires.same_segments all tells
+    (c.requires.count tells) at c.requires.settled c.put.result c.put.ensures.puts (c.put.ensures.advanced tells) (c.put.ensures.only tells))
