@@ -12,6 +12,14 @@ mod keys;
 mod last_line;
 mod log;
 mod records;
+#[cfg(test)]
+mod reference;
+#[cfg(test)]
+mod reference_fields;
+#[cfg(test)]
+mod reference_session;
+#[cfg(test)]
+mod reference_tests;
 mod running;
 mod script_lines;
 mod serving;
