@@ -38,14 +38,14 @@ use Rattle.tdb_run.specs.LaidOut.{IsOneOf, in_pieces}
 use Rattle.tdb_run.specs.History.{Finds, in_trace, IsWritten, IsChangeOf, AreChangesOf, Adds, HasTable, IsHistoryOf, IsHistory, Store}
 
 -- what one finding finds, another one finds too
-abbrev Finer : Finds → Finds → Type 0
-Finer f g = (digest bytes : List ℕ) → f digest bytes → g digest bytes
+abbrev pub Finer : Finds → Finds → Type 0
+Finer f g = (piece : Piece) (bytes : List ℕ) → f piece bytes → g piece bytes
 
 module _ (f g : Finds) (finer : Finer f g) (secret : List ℕ) where
   change_stays : (e : Entry) (change : Change) → IsChangeOf f secret e change → IsChangeOf g secret e change
   change_stays e (Write part rank bytes) is =
       let w = is.3 in
-      (is.0, is.1, is.2, record { suite = w.suite; numbered = w.numbered; sealed = w.sealed; found = finer e.piece.digest.0 w.sealed w.found; opened = w.opened })
+      (is.0, is.1, is.2, record { suite = w.suite; numbered = w.numbered; sealed = w.sealed; found = finer e.piece w.sealed w.found; opened = w.opened })
   change_stays e (Free part rank) is = is
   change_stays e (Make part suite) is = is
   change_stays e (Copy from to) is = is
@@ -57,12 +57,12 @@ module _ (f g : Finds) (finer : Finer f g) (secret : List ℕ) where
   changes_stay [] (change ∷ changes) are = absurd are
   changes_stay (e ∷ entries) [] are = absurd are
 
-  adds_stays : (c : Commit) (added : History) → Adds f secret c added → Adds g secret c added
+  pub adds_stays : (c : Commit) (added : History) → Adds f secret c added → Adds g secret c added
   adds_stays c added (inl checkpoint) =
       let h = checkpoint.1 in
       inl (
         checkpoint.0,
-        record { sealed = h.sealed; table = h.table; found = finer c.first.digest.0 h.sealed h.found; opened = h.opened; is_table = h.is_table; segments = h.segments },
+        record { sealed = h.sealed; table = h.table; found = finer c.first h.sealed h.found; opened = h.opened; is_table = h.is_table; segments = h.segments },
         checkpoint.2,
       )
   adds_stays c added (inr commit) =
@@ -75,7 +75,7 @@ module _ (f g : Finds) (finer : Finer f g) (secret : List ℕ) where
             sealed = h.sealed;
             plain = h.plain;
             entries = h.entries;
-            found = finer c.first.digest.0 h.sealed h.found;
+            found = finer c.first h.sealed h.found;
             opened = h.opened;
             list = h.list;
             each = changes_stay h.entries commit.1.0 h.each;
@@ -84,11 +84,11 @@ module _ (f g : Finds) (finer : Finer f g) (secret : List ℕ) where
         ),
       )
 
-chain_stays : (f g : Finds) (finer : Finer f g) (store : Store) (chain : List Commit) (history : History) → IsHistoryOf f store chain history → IsHistoryOf g store chain history
+pub chain_stays : (f g : Finds) (finer : Finer f g) (store : Store) (chain : List Commit) (history : History) → IsHistoryOf f store chain history → IsHistoryOf g store chain history
 chain_stays f g finer store [] history is = is
 chain_stays f g finer store (c ∷ chain) history is = (is.0, is.1, adds_stays f g finer store.secret c is.0 is.2, chain_stays f g finer store chain is.1 is.3, is.4, is.5)
 
-chain_longer : (f : Finds) (store : Store) (chain : List Commit) (c : Commit) (history added : History) → IsHistoryOf f store chain history → Adds f store.secret c added → c.segments ≡ store.segments
+pub chain_longer : (f : Finds) (store : Store) (chain : List Commit) (c : Commit) (history added : History) → IsHistoryOf f store chain history → Adds f store.secret c added → c.segments ≡ store.segments
     → IsHistoryOf f store (chain ++ c ∷ []) (history ++ added)
 chain_longer f store [] c history added is adds sized = (added, [], adds, refl, ap (λ (h : History). h ++ added) is ∙ sym (append-nil added), sized)
 chain_longer f store (d ∷ chain) c history added is adds sized =
@@ -100,7 +100,7 @@ pub history_stays : (written more : List WrittenPiece) (store : Store) (anchor :
 history_stays written more store anchor history is = record {
   chain = is.chain;
   ends = commit_chain-stays written more (commit_of (commit_key_of store.secret)) anchor.0 anchor.1 is.chain is.ends;
-  tells = chain_stays (in_trace written) (in_trace (written ++ more)) (λ digest bytes found. text_of_digest-stays written more digest bytes found) store is.chain history is.tells;
+  tells = chain_stays (in_trace written) (in_trace (written ++ more)) (λ piece bytes found. text_of_digest-stays written more piece.digest.0 bytes found) store is.chain history is.tells;
 }
 
 pub grows_all : (t : Trace) (ps : List Placed) → Extends t (with_all_written t ps)
@@ -109,7 +109,7 @@ grows_all t (p ∷ ps) =
     let next : Trace = with_written t p.place p.bytes in
     extends_along t next (with_all_written next ps) (extends_written t p.place p.bytes) (grows_all next ps)
 
-with_all_written-push : (t : Trace) (ps : List Placed) (p : Placed) → with_all_written t (ps ++ p ∷ []) ≡ with_written (with_all_written t ps) p.place p.bytes
+pub with_all_written-push : (t : Trace) (ps : List Placed) (p : Placed) → with_all_written t (ps ++ p ∷ []) ≡ with_written (with_all_written t ps) p.place p.bytes
 with_all_written-push t [] p = refl
 with_all_written-push t (q ∷ qs) p = with_all_written-push (with_written t q.place q.bytes) qs p
 
@@ -122,12 +122,12 @@ was_written_later : (t u : Trace) (p : List ℕ) → Extends t u → WasWritten 
 was_written_later t u p x h = subst (λ (ws : List WrittenPiece). WasWritten ws p) (sym x.written) (was_written_more t.written x.more_written p h)
 
 -- each of the pieces was written
-each_was_written : (t : Trace) (ps : List Placed) (bytes : List ℕ) → IsOneOf ps bytes → WasWritten (with_all_written t ps).written bytes
-each_was_written t [] bytes is = absurd is
-each_was_written t (p ∷ ps) bytes (inl e) =
+each_was_written : (t : Trace) (ps : List Placed) (place : ℕ) (bytes : List ℕ) → IsOneOf ps place bytes → WasWritten (with_all_written t ps).written bytes
+each_was_written t [] place bytes is = absurd is
+each_was_written t (p ∷ ps) place bytes (inl e) =
     let next : Trace = with_written t p.place p.bytes in
-    subst (WasWritten (with_all_written next ps).written) e (was_written_later next (with_all_written next ps) p.bytes (grows_all next ps) (WasWritten-last t.written _))
-each_was_written t (p ∷ ps) bytes (inr is) = each_was_written (with_written t p.place p.bytes) ps bytes is
+    subst (WasWritten (with_all_written next ps).written) e.1 (was_written_later next (with_all_written next ps) p.bytes (grows_all next ps) (WasWritten-last t.written _))
+each_was_written t (p ∷ ps) place bytes (inr is) = each_was_written (with_written t p.place p.bytes) ps place bytes is
 
 -- what was written is what its digest finds
 is_found : (t : Trace) (grammar : List ℕ → Option Commit) (p : List ℕ) → IsUnforged t grammar → WasWritten t.written p → text_of_digest t.written (sha256 p) ≡ Some p
@@ -137,6 +137,24 @@ is_found t grammar p unforged written =
     let is = unforged.no_collision found.0 p (inl was.0) (inl written) was.1 in
     subst (λ (q : List ℕ). text_of_digest t.written (sha256 p) ≡ Some q) is found.1
 
+-- the pieces of a put are found behind it, and so is its text
+pub found_in_put : (grammar : List ℕ → Option Commit) (t u : Trace) (ps : List Placed) (place : ℕ) (text : List ℕ) → u ≡ with_all_written t (ps ++ record { place = place; bytes = text } ∷ [])
+    → IsUnforged u grammar → Finer (in_pieces ps) (in_trace u.written)
+found_in_put grammar t u ps place text wrote unforged piece bytes found =
+    let slot : Placed = record { place = place; bytes = text } in
+    let mid : Trace = with_all_written t ps in
+    let last : u ≡ with_written mid place text = wrote ∙ with_all_written-push t ps slot in
+    let mid_to_u : Extends mid u = subst (Extends mid) (sym last) (extends_written mid place text) in
+    subst (λ (d : List ℕ). text_of_digest u.written d ≡ Some bytes) found.0
+    (is_found u grammar bytes unforged (was_written_later mid u bytes mid_to_u (each_was_written t ps piece.place.0 bytes found.1)))
+
+pub text_in_put : (grammar : List ℕ → Option Commit) (t u : Trace) (ps : List Placed) (place : ℕ) (text : List ℕ) → u ≡ with_all_written t (ps ++ record { place = place; bytes = text } ∷ [])
+    → IsUnforged u grammar → text_of_digest u.written (sha256 text) ≡ Some text
+text_in_put grammar t u ps place text wrote unforged =
+    let mid : Trace = with_all_written t ps in
+    let last : u ≡ with_written mid place text = wrote ∙ with_all_written-push t ps (record { place = place; bytes = text }) in
+    is_found u grammar text unforged (subst (λ (v : Trace). WasWritten v.written text) (sym last) (WasWritten-last mid.written _))
+
 -- A put of pieces and of the next text makes the history longer by what the text adds.
 module _ (store : Store) (t u : Trace) (n : ℕ) (mark text : List ℕ) (ps : List Placed) (c : Commit) where
   pub history_longer : (added before : History) → commit_of (commit_key_of store.secret) text ≡ Some c → c.prev.0 ≡ mark → follows n c ≡ true → Adds (in_pieces ps) store.secret c added → c.segments ≡ store.segments
@@ -145,25 +163,19 @@ module _ (store : Store) (t u : Trace) (n : ℕ) (mark text : List ℕ) (ps : Li
   history_longer added before reads prev next adds sized wrote unforged is =
       let grammar : List ℕ → Option Commit = commit_of (commit_key_of store.secret) in
       let slot : Placed = record { place = slot_place (n + 1); bytes = text } in
-      let mid : Trace = with_all_written t ps in
-      let last : u ≡ with_written mid slot.place text = wrote ∙ with_all_written-push t ps slot in
-      let mid_to_u : Extends mid u = subst (Extends mid) (sym last) (extends_written mid slot.place text) in
       let all : Extends t u = subst (Extends t) (sym wrote) (grows_all t (ps ++ slot ∷ [])) in
-      let text_written : WasWritten u.written text = subst (λ (v : Trace). WasWritten v.written text) (sym last) (WasWritten-last mid.written _) in
       let stays : IsHistory u.written store (n, mark) before =
       subst (λ (ws : List WrittenPiece). IsHistory ws store (n, mark) before) (sym all.written) (history_stays t.written all.more_written store (n, mark) before is) in
-      let finer : Finer (in_pieces ps) (in_trace u.written) =
-      λ digest bytes found. subst (λ (d : List ℕ). text_of_digest u.written d ≡ Some bytes) found.0
-      (is_found u grammar bytes unforged (was_written_later mid u bytes mid_to_u (each_was_written t ps bytes found.1))) in
+      let finer : Finer (in_pieces ps) (in_trace u.written) = found_in_put grammar t u ps slot.place text wrote unforged in
       record {
         chain = stays.chain ++ c ∷ [];
         ends =
             subst (λ (k : ℕ). commit_chain u.written grammar k (sha256 text) ≡ Some (stays.chain ++ c ∷ [])) (sym (add-one n))
-            (commit_chain-longer u.written grammar n mark text c stays.chain (is_found u grammar text unforged text_written) reads prev next stays.ends);
+            (commit_chain-longer u.written grammar n mark text c stays.chain (text_in_put grammar t u ps slot.place text wrote unforged) reads prev next stays.ends);
         tells = chain_longer (in_trace u.written) store stays.chain c before added stays.tells (adds_stays (in_pieces ps) (in_trace u.written) finer store.secret c added adds) sized;
       }
 
-follows_is : (n : ℕ) (c : Commit) → c.count ≡ n + 1 → (n ≡ 0 → c.prev.0 ≡ replicate 32 0) → follows n c ≡ true
+pub follows_is : (n : ℕ) (c : Commit) → c.count ≡ n + 1 → (n ≡ 0 → c.prev.0 ≡ replicate 32 0) → follows n c ≡ true
 follows_is n c count start =
     let counted : (c.count == n + 1) ≡ true = elim (eqb_tells c.count (n + 1)) [ inl t ↦ t.0 | inr f ↦ absurd (f.1 count) ] in
     let begins : cond (n == 0) (bytes_eq c.prev.0 (replicate 32 0)) true ≡ true =
@@ -208,23 +220,29 @@ module _ (store : Store) (old new : Outside) (n : ℕ) (mark text : List ℕ) (p
   pub put_grows : new.trace ≡ with_all_written old.trace done → Extends old.trace new.trace
   put_grows wrote = subst (Extends old.trace) (sym wrote) (grows_all old.trace done)
 
-one_of_last : (ps : List Placed) (p : Placed) → IsOneOf (ps ++ p ∷ []) p.bytes
-one_of_last [] p = inl refl
+one_of_last : (ps : List Placed) (p : Placed) → IsOneOf (ps ++ p ∷ []) p.place p.bytes
+one_of_last [] p = inl (refl, refl)
 one_of_last (q ∷ ps) p = inr (one_of_last ps p)
 
-one_of_more : (ps : List Placed) (p : Placed) (bytes : List ℕ) → IsOneOf ps bytes → IsOneOf (ps ++ p ∷ []) bytes
-one_of_more [] p bytes is = absurd is
-one_of_more (q ∷ ps) p bytes (inl e) = inl e
-one_of_more (q ∷ ps) p bytes (inr is) = inr (one_of_more ps p bytes is)
+one_of_more : (ps : List Placed) (p : Placed) (place : ℕ) (bytes : List ℕ) → IsOneOf ps place bytes → IsOneOf (ps ++ p ∷ []) place bytes
+one_of_more [] p place bytes is = absurd is
+one_of_more (q ∷ ps) p place bytes (inl e) = inl e
+one_of_more (q ∷ ps) p place bytes (inr is) = inr (one_of_more ps p place bytes is)
+
+-- the record behind these pieces, by its piece
+last_found : (ps : List Placed) (place : ℕ) (sealed : List ℕ) (piece : Piece) → sha256 sealed ≡ piece.digest.0 → place ≡ piece.place.0
+    → in_pieces (ps ++ record { place = place; bytes = sealed } ∷ []) piece sealed
+last_found ps place sealed piece digest at =
+    (digest, subst (λ (k : ℕ). IsOneOf (ps ++ record { place = place; bytes = sealed } ∷ []) k sealed) at (one_of_last ps (record { place = place; bytes = sealed })))
 
 -- A list behind the records of its writes says the changes.
 pub list_adds : (secret : List ℕ) (n place : ℕ) (ps : List Placed) (c : Commit) (entries : List Entry) (sealed : List ℕ) (changes : List Change)
-    → c.kind ≡ 1 → c.count ≡ n → c.suite ≡ Plain → sha256 sealed ≡ c.first.digest.0 → IsSealedRecord (system_key secret) list_name (list_bytes entries) sealed
+    → c.kind ≡ 1 → c.count ≡ n → c.suite ≡ Plain → sha256 sealed ≡ c.first.digest.0 → place ≡ c.first.place.0 → IsSealedRecord (system_key secret) list_name (list_bytes entries) sealed
     → AllByRecursion IsEntryValue entries → IsList entries → AreChangesOf (in_pieces ps) secret entries changes
     → Adds (in_pieces (ps ++ record { place = place; bytes = sealed } ∷ [])) secret c ((n, changes) ∷ [])
-list_adds secret n place ps c entries sealed changes kind count suite digest opened values list are =
+list_adds secret n place ps c entries sealed changes kind count suite digest at opened values list are =
     let p : Placed = record { place = place; bytes = sealed } in
-    let finer : Finer (in_pieces ps) (in_pieces (ps ++ p ∷ [])) = λ d bytes found. (found.0, one_of_more ps p bytes found.1) in
+    let finer : Finer (in_pieces ps) (in_pieces (ps ++ p ∷ [])) = λ piece bytes found. (found.0, one_of_more ps p piece.place.0 bytes found.1) in
     inr (
       kind,
       (
@@ -233,7 +251,7 @@ list_adds secret n place ps c entries sealed changes kind count suite digest ope
           sealed = sealed;
           plain = list_bytes entries;
           entries = entries;
-          found = (digest, one_of_last ps p);
+          found = last_found ps place sealed c.first digest at;
           opened = subst (λ (s : Suite). IsSealedRecord (system_key secret) (record { kind = 5; suite = s; home = 0; rank = 0 }) (list_bytes entries) sealed) (sym suite) opened;
           list = record { values = values; list = list; spelled = refl };
           each = changes_stay (in_pieces ps) (in_pieces (ps ++ p ∷ [])) finer secret entries changes are;
@@ -242,28 +260,28 @@ list_adds secret n place ps c entries sealed changes kind count suite digest ope
       ),
     )
 
-pub note_changes : (secret : List ℕ) (place : ℕ) (ps : List Placed) (piece : Piece) (sealed text : List ℕ) → sha256 sealed ≡ piece.digest.0
+pub note_changes : (secret : List ℕ) (place : ℕ) (ps : List Placed) (piece : Piece) (sealed text : List ℕ) → sha256 sealed ≡ piece.digest.0 → place ≡ piece.place.0
     → IsSealedRecord (partition_key secret 1 2) note_name (stored_note_bytes text) sealed
     → AreChangesOf (in_pieces (ps ++ record { place = place; bytes = sealed } ∷ [])) secret (note_entry piece ∷ []) (write_of_note text ∷ [])
-note_changes secret place ps piece sealed text digest opened =
+note_changes secret place ps piece sealed text digest at opened =
     let p : Placed = record { place = place; bytes = sealed } in
     let written : IsWritten (in_pieces (ps ++ p ∷ [])) secret (note_entry piece) (stored_note_bytes text) =
-    record { suite = Plain; numbered = refl; sealed = sealed; found = (digest, one_of_last ps p); opened = opened } in
+    record { suite = Plain; numbered = refl; sealed = sealed; found = last_found ps place sealed piece digest at; opened = opened } in
     ((refl, refl, refl, written), tt)
 
 pub makes_changes : (f : Finds) (secret : List ℕ) → AreChangesOf f secret (make_entry 1 ∷ make_entry 2 ∷ []) (opening_changes Plain)
 makes_changes f secret = ((refl, refl, refl), ((refl, refl, refl), tt))
 
 -- A table behind no other record is the one that a checkpoint names.
-pub table_adds : (secret : List ℕ) (place : ℕ) (ps : List Placed) (c : Commit) (table : Table) (sealed : List ℕ) → c.kind ≡ 2 → c.suite ≡ Plain → sha256 sealed ≡ c.first.digest.0
+pub table_adds : (secret : List ℕ) (place : ℕ) (ps : List Placed) (c : Commit) (table : Table) (sealed : List ℕ) → c.kind ≡ 2 → c.suite ≡ Plain → sha256 sealed ≡ c.first.digest.0 → place ≡ c.first.place.0
     → IsSealedRecord (system_key secret) table_name (table_bytes table) sealed → IsTable table → table.segments ≡ c.segments
     → Adds (in_pieces (ps ++ record { place = place; bytes = sealed } ∷ [])) secret c []
-table_adds secret place ps c table sealed kind suite digest opened is_table segments =
+table_adds secret place ps c table sealed kind suite digest at opened is_table segments =
     let p : Placed = record { place = place; bytes = sealed } in
     let named : HasTable (in_pieces (ps ++ p ∷ [])) secret c = record {
       sealed = sealed;
       table = table;
-      found = (digest, one_of_last ps p);
+      found = last_found ps place sealed c.first digest at;
       opened = subst (λ (s : Suite). IsSealedRecord (system_key secret) (record { kind = 4; suite = s; home = 0; rank = 0 }) (table_bytes table) sealed) (sym suite) opened;
       is_table = is_table;
       segments = segments;

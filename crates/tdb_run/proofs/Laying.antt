@@ -24,27 +24,31 @@ all_pairs_push {X} R xs x pairs last i j d before within =
           subst (λ (y : X). R y (get_or (xs ++ x ∷ []) j d)) (sym at_i) (subst (λ (y : X). R (get_or xs i d) y) (sym at_j) (last i d (omega (arith, before, is))))
     ]
 
-pub laid_out_none : (secret : List ℕ) (tail : ℕ) → 262144 ≤ tail → tail ≤ 524288 → LaidOut secret tail []
+pub laid_out_none : (secret : List ℕ) (tail : ℕ) → 262144 ≤ tail → tail ≤ 524288 → LaidOut secret tail tail []
 laid_out_none secret tail begins ends = record {
   begins = begins;
+  goes_on = omega arith;
   ends = ends;
   sealed = λ k d within. absurd (omega (arith, within));
   in_segments = λ k d within. absurd (omega (arith, within));
   apart = λ i j d before within. absurd (omega (arith, within));
+  behind = λ k d within. absurd (omega (arith, within));
   before = λ k d within. absurd (omega (arith, within));
 }
 
 -- one record more
-pub laid_out_push : (secret : List ℕ) (tail : ℕ) (ps : List Placed) (bytes : List ℕ) → LaidOut secret tail ps → IsRecord secret bytes → 1 ≤ length bytes
-    → tail + length bytes ≤ 524288 → LaidOut secret (tail + length bytes) (ps ++ record { place = tail; bytes = bytes } ∷ [])
-laid_out_push secret tail ps bytes laid is some fits =
+pub laid_out_push : (secret : List ℕ) (from tail : ℕ) (ps : List Placed) (bytes : List ℕ) → LaidOut secret from tail ps → IsRecord secret bytes → 1 ≤ length bytes
+    → tail + length bytes ≤ 524288 → LaidOut secret from (tail + length bytes) (ps ++ record { place = tail; bytes = bytes } ∷ [])
+laid_out_push secret from tail ps bytes laid is some fits =
     let p : Placed = record { place = tail; bytes = bytes } in
     record {
-      begins = omega (arith, laid.begins);
+      begins = laid.begins;
+      goes_on = omega (arith, laid.goes_on);
       ends = fits;
       sealed = All-push (λ (q : Placed). IsRecord secret q.bytes) ps p laid.sealed is;
-      in_segments = All-push FitsOneSegment ps p laid.in_segments (0, omega arith, record { some = some; begins = omega (arith, laid.begins); ends = omega (arith, fits) });
+      in_segments = All-push FitsOneSegment ps p laid.in_segments (0, omega arith, record { some = some; begins = omega (arith, laid.begins, laid.goes_on); ends = omega (arith, fits) });
       apart = all_pairs_push IsApart ps p laid.apart (λ k d within. inl (laid.before k d within));
+      behind = All-push (λ (q : Placed). from ≤ q.place) ps p laid.behind laid.goes_on;
       before = All-push (λ (q : Placed). q.place + length q.bytes ≤ tail + length bytes) ps p (λ k d within. omega (arith, laid.before k d within)) (omega arith);
     }
 
@@ -72,9 +76,9 @@ sealed_all secret t (p ∷ ps) all =
     (sealed_all secret next ps (All-tail (λ (q : Placed). IsSealedPiece secret q.place q.bytes) p ps all))
 
 -- Of the records of a batch and a text in its slot, a front was written.
-pub put_sealed : (secret : List ℕ) (tail count : ℕ) (ps done rest : List Placed) (text : List ℕ) (t u : Trace) → LaidOut secret tail ps → IsTextInSlot secret (slot_place (count + 1)) text
+pub put_sealed : (secret : List ℕ) (from tail count : ℕ) (ps done rest : List Placed) (text : List ℕ) (t u : Trace) → LaidOut secret from tail ps → IsTextInSlot secret (slot_place (count + 1)) text
     → ps ++ record { place = slot_place (count + 1); bytes = text } ∷ [] ≡ done ++ rest → u ≡ with_all_written t done → WritesOnlySealed secret t u
-put_sealed secret tail count ps done rest text t u laid is in_order wrote =
+put_sealed secret from tail count ps done rest text t u laid is in_order wrote =
     let P : Placed → Type 0 = λ p. IsSealedPiece secret p.place p.bytes in
     let slot : Placed = record { place = slot_place (count + 1); bytes = text } in
     let in_slot : IsSealedPiece secret slot.place slot.bytes = inr is in

@@ -6,4 +6,5 @@ pub mod Laying
 pub mod Remembering
 pub mod SealedAlong
 pub mod Sealing
+pub mod Standing
 pub mod Unreading

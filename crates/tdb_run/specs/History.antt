@@ -1,5 +1,6 @@
 -- The history that a trace tells of an anchor: its commits, oldest first, each with its count and its changes.
 use Rattle.std.specs.Prelude.{◌≡◌, ◌⊎◌, ℕ, List, [], ◌∷◌, ◌++◌, Some}
+use Rattle.tdb_base.specs.declared.piece.Piece.{Piece}
 use Rattle.tdb_base.specs.declared.suite.Suite.{Suite}
 use Rattle.tdb_base.specs.declared.suite.Suite.TheVariants.{Plain}
 use Rattle.tdb_base.specs.SuiteNumber.{suite_number}
@@ -25,20 +26,20 @@ pub record Store : Type 0 where
   pub secret : List ℕ
   pub segments : ℕ
 
--- which bytes a digest stands for
+-- which bytes a piece stands for
 abbrev pub Finds : Type 1
-Finds = List ℕ → List ℕ → Type 0
+Finds = Piece → List ℕ → Type 0
 
--- in a trace those of the first written piece that has it
+-- in a trace those of the first written piece that has its digest
 abbrev pub in_trace : List WrittenPiece → Finds
-in_trace written digest bytes = text_of_digest written digest ≡ Some bytes
+in_trace written piece bytes = text_of_digest written piece.digest.0 ≡ Some bytes
 
 -- The bytes that a write gives to a chunk are those of its record, opened with its partition's key.
 pub record IsWritten (finds : Finds) (secret : List ℕ) (e : Entry) (bytes : List ℕ) : Type 0 where
   pub suite : Suite
   pub numbered : suite_number suite ≡ e.suite
   pub sealed : List ℕ
-  pub found : finds e.piece.digest.0 sealed
+  pub found : finds e.piece sealed
   pub opened : IsSealedRecord (partition_key secret e.home e.birth) (record { kind = 1; suite = suite; home = e.home; rank = e.rank }) bytes sealed
 
 -- the change that an entry says
@@ -61,7 +62,7 @@ pub record HasChanges (finds : Finds) (secret : List ℕ) (c : Commit) (changes 
   pub sealed : List ℕ
   pub plain : List ℕ
   pub entries : List Entry
-  pub found : finds c.first.digest.0 sealed
+  pub found : finds c.first sealed
   pub opened : IsSealedRecord (system_key secret) (record { kind = 5; suite = c.suite; home = 0; rank = 0 }) plain sealed
   pub list : IsChangeList entries plain
   pub each : AreChangesOf finds secret entries changes
@@ -70,7 +71,7 @@ pub record HasChanges (finds : Finds) (secret : List ℕ) (c : Commit) (changes 
 pub record HasTable (finds : Finds) (secret : List ℕ) (c : Commit) : Type 0 where
   pub sealed : List ℕ
   pub table : Table
-  pub found : finds c.first.digest.0 sealed
+  pub found : finds c.first sealed
   pub opened : IsSealedRecord (system_key secret) (record { kind = 4; suite = c.suite; home = 0; rank = 0 }) (table_bytes table) sealed
   pub is_table : IsTable table
   pub segments : table.segments ≡ c.segments

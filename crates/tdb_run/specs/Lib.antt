@@ -4,6 +4,7 @@ pub mod CommandValue
 pub mod Gave
 pub mod Growth
 pub mod History
+pub mod Intact
 pub mod Keys
 pub mod LaidOut
 pub mod LastLine

@@ -39,8 +39,8 @@ impl Batch {
         ensures piece { IfOk result (λ piece. piece ≡ record { place = self.old.tail; length = length bytes.items; digest = record { 0 = sha256 bytes.items } }) }
         ensures tail { OnOk result (self.new.tail.0 ≡ self.old.tail.0 + length bytes.items) }
         ensures pieces { OnOk result (placed self.new.pieces.items ≡ placed self.old.pieces.items ++ record { place = self.old.tail.0; bytes = bytes.items } ∷ []) }
-        ensures laid_out { OnOk result ((secret : List ℕ) → IsRecord secret bytes.items → LaidOut secret self.old.tail.0 (placed self.old.pieces.items)
-            → LaidOut secret self.new.tail.0 (placed self.new.pieces.items)) }
+        ensures laid_out { OnOk result ((secret : List ℕ) (from : ℕ) → IsRecord secret bytes.items → LaidOut secret from self.old.tail.0 (placed self.old.pieces.items)
+            → LaidOut secret from self.new.tail.0 (placed self.new.pieces.items)) }
     {
         let place = self.tail;
         let length = bytes.len() as u32;

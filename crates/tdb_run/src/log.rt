@@ -10,6 +10,7 @@ ghost use Rattle.tdb_model.specs.Opening.{opening_changes};
 ghost use Rattle.tdb_model.specs.declared.change.Change.{Change};
 ghost use Rattle.tdb_run.specs.Growth.{Added, IsSettled};
 ghost use Rattle.tdb_run.specs.History.{Adds, AreChangesOf};
+ghost use Rattle.tdb_run.specs.Intact.{KeepsIntact};
 ghost use Rattle.tdb_run.specs.LaidOut.{LaidOut, in_pieces};
 ghost use Rattle.tdb_run.specs.Records.{make_entry, note_entry};
 ghost use Rattle.tdb_run.specs.SealedOnly.{WritesOnlySealed};
@@ -101,6 +102,7 @@ impl Log {
         ensures no_fewer { (P.outside platform.old).faults ≤ (P.outside platform.new).faults }
         ensures sealed { IsTrue (P.outside platform.old).tells → WritesOnlySealed secret.now (P.outside platform.old).trace (P.outside platform.new).trace }
         ensures history { IsTrue (P.outside platform.old).tells → Added P.outside P.crash_states (record { secret = secret.now; segments = segments }) platform.old platform.new [] result }
+        ensures stands { IsTrue (P.outside platform.old).tells → KeepsIntact (record { secret = secret.now; segments = segments }) 262144 (P.outside platform.old) (P.outside platform.new) (λ end. IfOk result (λ log. log.tail.0 ≡ end)) }
     {
         let mut log = Log {
             keys: Keys::new(secret),
@@ -138,6 +140,7 @@ impl Log {
         ensures no_fewer { (P.outside platform.old).faults ≤ (P.outside platform.new).faults }
         ensures sealed { IsTrue (P.outside platform.old).tells → WritesOnlySealed self.old.keys (P.outside platform.old).trace (P.outside platform.new).trace }
         ensures history { IsTrue (P.outside platform.old).tells → Added P.outside P.crash_states (store_of self.old) platform.old platform.new ((self.old.head.count + 1, opening_changes Suite.Plain) ∷ []) result }
+        ensures stands { IsTrue (P.outside platform.old).tells → KeepsIntact (store_of self.old) self.old.tail.0 (P.outside platform.old) (P.outside platform.new) (λ end. OnOk result (self.new.tail.0 ≡ end)) }
     {
         let batch = Batch::new(alloc, self.tail)?;
         self.commit(alloc, platform, &[make_part(1), make_part(2)], batch)
@@ -161,6 +164,7 @@ impl Log {
         ensures no_fewer { (P.outside platform.old).faults ≤ (P.outside platform.new).faults }
         ensures sealed { IsTrue (P.outside platform.old).tells → WritesOnlySealed self.old.keys (P.outside platform.old).trace (P.outside platform.new).trace }
         ensures history { IsTrue (P.outside platform.old).tells → Added P.outside P.crash_states (store_of self.old) platform.old platform.new ((self.old.head.count + 1, write_of_note note.now ∷ []) ∷ []) result }
+        ensures stands { IsTrue (P.outside platform.old).tells → KeepsIntact (store_of self.old) self.old.tail.0 (P.outside platform.old) (P.outside platform.new) (λ end. OnOk result (self.new.tail.0 ≡ end)) }
     {
         let chunk = seal_note(alloc, &self.keys, note)?;
         let mut batch = Batch::new(alloc, self.tail)?;
@@ -182,7 +186,7 @@ impl Log {
         requires list { IsList entries.now }
         requires values { AllByRecursion IsEntryValue entries.now }
         requires few { length entries.now ≤ 2 }
-        requires laid_out { LaidOut self.old.keys batch.tail.0 (placed batch.pieces.items) }
+        requires laid_out { LaidOut self.old.keys self.old.tail.0 batch.tail.0 (placed batch.pieces.items) }
         requires fits { batch.tail.0 + 208 ≤ 524288 }
         ensures ok { OnOk result (IsAtHead (P.outside platform.new) self.new) }
         ensures count { OnOk result (Grew self.old self.new) }
@@ -194,6 +198,8 @@ impl Log {
         ensures sealed { IsTrue (P.outside platform.old).tells → WritesOnlySealed self.old.keys (P.outside platform.old).trace (P.outside platform.new).trace }
         ensures history { IsTrue (P.outside platform.old).tells → (changes : List Change) → AreChangesOf (in_pieces (placed batch.pieces.items)) self.old.keys entries.now changes
             → Added P.outside P.crash_states (store_of self.old) platform.old platform.new ((self.old.head.count + 1, changes) ∷ []) result }
+        ensures stands { IsTrue (P.outside platform.old).tells → (changes : List Change) → AreChangesOf (in_pieces (placed batch.pieces.items)) self.old.keys entries.now changes
+            → KeepsIntact (store_of self.old) self.old.tail.0 (P.outside platform.old) (P.outside platform.new) (λ end. OnOk result (self.new.tail.0 ≡ end)) }
     {
         let list = seal_list(alloc, &self.keys, entries)?;
         let first = batch.lay(list)?;
@@ -234,7 +240,7 @@ impl Log {
         requires start { self.old.head.count ≡ 0 → self.old.head.mark.0 ≡ replicate 32 0 }
         requires same_segments { commit.now.segments ≡ self.old.segments }
         requires in_format { IsInFormat commit.now }
-        requires laid_out { LaidOut self.old.keys batch.tail.0 (placed batch.pieces.items) }
+        requires laid_out { LaidOut self.old.keys self.old.tail.0 batch.tail.0 (placed batch.pieces.items) }
         ensures ok { OnOk result (IsAtHead (P.outside platform.new) self.new) }
         ensures count { OnOk result (Grew self.old self.new) }
         ensures tail { OnOk result (self.new.tail ≡ batch.tail) }
@@ -246,6 +252,9 @@ impl Log {
         ensures history { IsTrue (P.outside platform.old).tells → ((P.outside platform.old).anchor ≡ (self.old.head.count, self.old.head.mark.0)) ⊎ (self.old.head.count ≡ 0)
             → (added : History) → Adds (in_pieces (placed batch.pieces.items)) self.old.keys commit.now added
             → Added P.outside P.crash_states (store_of self.old) platform.old platform.new added result }
+        ensures stands { IsTrue (P.outside platform.old).tells → ((P.outside platform.old).anchor ≡ (self.old.head.count, self.old.head.mark.0)) ⊎ (self.old.head.count ≡ 0)
+            → (added : History) → Adds (in_pieces (placed batch.pieces.items)) self.old.keys commit.now added
+            → KeepsIntact (store_of self.old) self.old.tail.0 (P.outside platform.old) (P.outside platform.new) (λ end. OnOk result (self.new.tail.0 ≡ end)) }
     {
         let text = write_commit_with(commit, self.keys.commit());
         match put(platform, &self.head, &batch.pieces, &text) {

@@ -2,6 +2,7 @@
 ghost use Rattle.std.specs.Prelude.{◌≡◌, ◌≢◌, ◌⊎◌, ◌↔◌, ℕ, IsTrue};
 ghost use Rattle.tdb_run.specs.Acknowledged.{Acknowledged, Started};
 ghost use Rattle.tdb_run.specs.Command.{IsCommand, IsNoCommand, IsStart, texts};
+ghost use Rattle.tdb_run.specs.Intact.{StaysIntact};
 ghost use Rattle.tdb_run.specs.OneLine.{Keeps};
 ghost use Rattle.tdb_run.specs.Replies.{Replies};
 ghost use Rattle.tdb_run.specs.SealedOnly.{OnlySealed};
@@ -51,6 +52,9 @@ pub fn run<S: Source, K: Sink, P: Platform>(
     ensures acknowledged { (segments : ℕ) → IsStart (texts words.now) segments
         → Acknowledged P.outside P.crash_states (S.content source.old) (S.content source.new) (K.content sink.old) (K.content sink.new) (record { secret = secret.now; segments = segments }) platform result.platform result.status }
 
+    // What the history of the anchor rests on stands where it was written: nothing was written over it since.
+    ensures intact { (segments : ℕ) → IsStart (texts words.now) segments → StaysIntact (record { secret = secret.now; segments = segments }) (P.outside platform) (P.outside result.platform) }
+
     // Whatever goes to the device is a sealed record in a segment, or a commit text with its tag in a slot.
     ensures sealed_only { OnlySealed secret.now (P.outside platform) (P.outside result.platform) }
 
@@ -87,6 +91,7 @@ fn outcome<S: Source, K: Sink, P: Platform>(
         → IsUnwritten (P.outside platform.old) (P.outside platform.new) × (source.new ≡ source.old) }
     ensures remembered { (segments : ℕ) → IsStart (texts words.now) segments
         → Started P.outside P.crash_states (S.content source.old) (S.content source.new) (K.content sink.old) (K.content sink.new) (record { secret = secret.now; segments = segments }) platform.old platform.new result }
+    ensures intact { (segments : ℕ) → IsStart (texts words.now) segments → StaysIntact (record { secret = secret.now; segments = segments }) (P.outside platform.old) (P.outside platform.new) }
     ensures sealed { OnlySealed secret.now (P.outside platform.old) (P.outside platform.new) }
     ensures served { Served (S.content source.old) (S.content source.new) (K.content sink.old) (K.content sink.new) result }
     ensures causes { IsCaused (S.content source.old) (S.content source.new) (K.content sink.old) (K.content sink.new) (P.outside platform.old) (P.outside platform.new) result }

@@ -11,6 +11,7 @@ ghost use Rattle.tdb_run.specs.OneLine.{HasReplied, Interrupted, IsUnfinished, K
 ghost use Rattle.tdb_run.specs.SealedOnly.{OnlySealed};
 ghost use Rattle.tdb_run.specs.Acknowledged.{HasAcknowledged, ServedAll, StopsBehind, commits_after};
 ghost use Rattle.tdb_run.specs.Growth.{IsSettled, Remembers};
+ghost use Rattle.tdb_run.specs.Intact.{KeepsIntact};
 ghost use Rattle.tdb_run.specs.Session.{changes_of_note};
 ghost use Rattle.tdb_run.specs.Served.{IsCaused, IsScriptStatus, Served};
 
@@ -77,6 +78,7 @@ fn carry_out<P: Platform>(
     ensures none { IsNone note.now → log.new ≡ log.old }
     ensures keys { OnOk result (log.new.keys ≡ log.old.keys) }
     ensures segments { OnOk result (log.new.segments ≡ log.old.segments) }
+    ensures stands { IsTrue (P.outside platform.old).tells → KeepsIntact (store_of log.old) log.old.tail.0 (P.outside platform.old) (P.outside platform.new) (λ end. OnOk result (log.new.tail.0 ≡ end)) }
     ensures sealed { OnlySealed log.old.keys (P.outside platform.old) (P.outside platform.new) }
     ensures count { OnOk result (log.new.head.count ≡ log.old.head.count + length (commits_after log.old.head.count (changes_of_note note.now))) }
     ensures remembered { IsTrue (P.outside platform.old).tells → OnOk result (Remembers P.outside P.crash_states (store_of log.old) platform.old platform.new (commits_after log.old.head.count (changes_of_note note.now)) []) }
@@ -111,6 +113,7 @@ fn answer_one<S: Source, K: Sink, P: Platform>(
     ensures room { OnOk result (MayCommit (state_of session.new) log.new) }
     ensures keys { OnOk result (log.new.keys ≡ log.old.keys) }
     ensures segments { OnOk result (log.new.segments ≡ log.old.segments) }
+    ensures stands { IsTrue (P.outside platform.old).tells → KeepsIntact (store_of log.old) log.old.tail.0 (P.outside platform.old) (P.outside platform.new) (λ end. OnOk result (log.new.tail.0 ≡ end)) }
     ensures sealed { OnlySealed log.old.keys (P.outside platform.old) (P.outside platform.new) }
     ensures acknowledged { IfOk result (λ reply. HasAcknowledged P.outside P.crash_states (S.content source.old) (S.content source.new) (K.content sink.old) (K.content sink.new) platform.old platform.new log.old log.new lines.old lines.new session.old session.new reply) }
     ensures stops_behind { IfErr result (λ status. StopsBehind P.outside P.crash_states (S.content source.old) (S.content source.new) (K.content sink.old) (K.content sink.new) platform.old platform.new log.old lines.old lines.new session.old status) }
@@ -144,6 +147,7 @@ fn finish_line<K: Sink, P: Platform>(
     ensures none { IsNone answered.now.note → log.new ≡ log.old }
     ensures keys { OnOk result (log.new.keys ≡ log.old.keys) }
     ensures segments { OnOk result (log.new.segments ≡ log.old.segments) }
+    ensures stands { IsTrue (P.outside platform.old).tells → KeepsIntact (store_of log.old) log.old.tail.0 (P.outside platform.old) (P.outside platform.new) (λ end. OnOk result (log.new.tail.0 ≡ end)) }
     ensures sealed { OnlySealed log.old.keys (P.outside platform.old) (P.outside platform.new) }
     ensures count { OnOk result (log.new.head.count ≡ log.old.head.count + length (commits_after log.old.head.count (changes_of_note answered.now.note))) }
     ensures remembered { IsTrue (P.outside platform.old).tells → OnOk result (Remembers P.outside P.crash_states (store_of log.old) platform.old platform.new (commits_after log.old.head.count (changes_of_note answered.now.note)) []) }
@@ -184,6 +188,7 @@ fn serve_lines<S: Source, K: Sink, P: Platform>(
     requires first { state_of session.old ≡ fresh }
     ensures served { Served (S.content source.old) (S.content source.new) (K.content sink.old) (K.content sink.new) result }
     ensures remembered { ServedAll P.outside P.crash_states (S.content source.old) (S.content source.new) (K.content sink.old) (K.content sink.new) (store_of log.old) platform.old platform.new log.old.head.count result }
+    ensures stands { IsTrue (P.outside platform.old).tells → KeepsIntact (store_of log.old) log.old.tail.0 (P.outside platform.old) (P.outside platform.new) (λ end. Unit {0}) }
     ensures script { IsScriptStatus result }
     ensures sealed { OnlySealed log.old.keys (P.outside platform.old) (P.outside platform.new) }
     ensures caused { IsCaused (S.content source.old) (S.content source.new) (K.content sink.old) (K.content sink.new) (P.outside platform.old) (P.outside platform.new) result }
@@ -214,6 +219,7 @@ pub(crate) fn serve<S: Source, K: Sink, P: Platform>(
     requires room { HasRoom log.old }
     ensures served { Served (S.content source.old) (S.content source.new) (K.content sink.old) (K.content sink.new) result }
     ensures remembered { ServedAll P.outside P.crash_states (S.content source.old) (S.content source.new) (K.content sink.old) (K.content sink.new) (store_of log.old) platform.old platform.new log.old.head.count result }
+    ensures stands { IsTrue (P.outside platform.old).tells → KeepsIntact (store_of log.old) log.old.tail.0 (P.outside platform.old) (P.outside platform.new) (λ end. Unit {0}) }
     ensures script { IsScriptStatus result }
     ensures sealed { OnlySealed log.old.keys (P.outside platform.old) (P.outside platform.new) }
     ensures caused { IsCaused (S.content source.old) (S.content source.new) (K.content sink.old) (K.content sink.new) (P.outside platform.old) (P.outside platform.new) result }

@@ -1,8 +1,11 @@
 //! The command `start`: a new store, and then a script.
-ghost use Rattle.std.specs.Prelude.{◌≡◌, ◌≢◌, ◌⊎◌, ◌≤◌, IsTrue, IfOk, IfErr, OnOk, []};
+ghost use Rattle.std.specs.Prelude.{◌≡◌, ◌≢◌, ◌⊎◌, ◌≤◌, IsTrue, IfOk, IfErr, OnOk, ℕ, []};
 ghost use Rattle.tdb_run.specs.Acknowledged.{Started};
 ghost use Rattle.tdb_run.specs.Growth.{IsSettled, Remembers};
 ghost use Rattle.tdb_run.specs.History.{opening};
+ghost use Rattle.tdb_mark.specs.CommitText.{commit_key_of, commit_of};
+ghost use Rattle.tdb_mark.specs.Unforged.{IsUnforged};
+ghost use Rattle.tdb_run.specs.Intact.{IsIntactBefore, StaysIntact};
 ghost use Rattle.tdb_run.specs.LogState.{HasRoom, IsAtHead, IsStopOfCommit};
 ghost use Rattle.tdb_run.specs.OneLine.{Keeps};
 ghost use Rattle.tdb_run.specs.SealedOnly.{OnlySealed};
@@ -32,6 +35,7 @@ pub(crate) fn start<S: Source, K: Sink, P: Platform>(
     ensures keeps { Keeps (S.content source.old) (S.content source.new) (K.content sink.old) (K.content sink.new) (P.outside platform.old) (P.outside platform.new) }
     ensures already_untouched { IsTrue (P.outside platform.old).tells → (P.outside platform.old).anchor.0 ≢ 0 → IsUnwritten (P.outside platform.old) (P.outside platform.new) × (source.new ≡ source.old) }
     ensures remembered { Started P.outside P.crash_states (S.content source.old) (S.content source.new) (K.content sink.old) (K.content sink.new) (record { secret = secret.now; segments = segments }) platform.old platform.new result }
+    ensures intact { StaysIntact (record { secret = secret.now; segments = segments }) (P.outside platform.old) (P.outside platform.new) }
     ensures sealed { OnlySealed secret.now (P.outside platform.old) (P.outside platform.new) }
     ensures words { result ≢ Usage }
     ensures already { result ≡ AnchorCount → IsTrue (P.outside platform.old).tells → (P.outside platform.old).anchor.0 ≢ 0 }
@@ -69,6 +73,8 @@ fn new_log<P: Platform>(
     ensures sealed { OnlySealed secret.now (P.outside platform.old) (P.outside platform.new) }
     ensures opened { IsTrue (P.outside platform.old).tells → OnOk result (Remembers P.outside P.crash_states (record { secret = secret.now; segments = segments }) platform.old platform.new opening []) }
     ensures may_be_opened { IsTrue (P.outside platform.old).tells → Remembers P.outside P.crash_states (record { secret = secret.now; segments = segments }) platform.old platform.new [] opening }
+    ensures intact { IsTrue (P.outside platform.old).tells → (end : ℕ) × IfOk result (λ log. log.tail.0 ≡ end)
+        × (IsUnforged (P.outside platform.new).trace (commit_of (commit_key_of secret.now)) → IsIntactBefore (P.outside platform.new).trace.written (record { secret = secret.now; segments = segments }) end (P.outside platform.new).anchor) }
     ensures stopped { IfErr result (λ status. IsStopOfCommit (P.outside platform.old) (P.outside platform.new) status) }
     ensures tells { (P.outside platform.new).tells ≡ (P.outside platform.old).tells }
     ensures no_fewer { (P.outside platform.old).faults ≤ (P.outside platform.new).faults }

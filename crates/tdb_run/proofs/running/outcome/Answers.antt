@@ -5,6 +5,7 @@ use Rattle.tdb_run.specs.contracts.command.Command.{enum}
 use Rattle.tdb_run.specs.declared.command.Command.{Command}
 use Rattle.tdb_run.specs.declared.command.Command.TheVariants.{Start}
 use Rattle.tdb_run.specs.Command.{IsStart, texts}
+use Rattle.tdb_run.specs.Intact.{StaysIntact}
 use Rattle.tdb_run.specs.CommandValue.{IsCommandOf}
 use Rattle.tdb_run.specs.Acknowledged.{Started}
 use Rattle.tdb_run.proofs.Conversing.{served_none}
@@ -39,3 +40,13 @@ returns-in-Some-Start-clause-remembered g c segments start =
     (λ (n : ℕ). Started g.P.Platform.outside g.P.Platform.crash_states (g.S.Source.content c.args.source.now) (g.S.Source.content c.start.new.source) (g.K.Sink.content c.args.sink.now) (g.K.Sink.content c.start.new.sink)
     (record { secret = c.args.secret.now; segments = n }) c.args.platform.now c.start.new.platform c.start.result)
     (one_start words (number_of said) segments (as_start words said c.in-Some-Start.ensures.found) start) c.start.ensures.remembered
+
+pub returns-in-None-clause-intact : goal.returns-in-None-clause-intact
+returns-in-None-clause-intact g c segments start = absurd (c.in-None.ensures.none segments start)
+
+pub returns-in-Some-Start-clause-intact : goal.returns-in-Some-Start-clause-intact
+returns-in-Some-Start-clause-intact g c segments start =
+    let words = texts c.args.words.now in
+    let said = c.in-Some-Start.field-0 in
+    subst (λ (n : ℕ). StaysIntact (record { secret = c.args.secret.now; segments = n }) (g.P.Platform.outside c.args.platform.now) (g.P.Platform.outside c.start.new.platform))
+    (one_start words (number_of said) segments (as_start words said c.in-Some-Start.ensures.found) start) c.start.ensures.intact

@@ -2,6 +2,7 @@ use Rattle.std.proofs.Common.{[], inl, refl}
 use Rattle.tdb_run.specs.SessionState.{answer_of}
 use Rattle.tdb_run.specs.LogState.{store_of}
 use Rattle.tdb_run.proofs.Remembering.{remembers_itself}
+use Rattle.tdb_run.proofs.Standing.{keeps_itself}
 use Rattle.tdb_run.proofs.serving.answer_one.Goals as goal
 
 pub returns-in-Err-clause-stops_behind : goal.returns-in-Err-clause-stops_behind
@@ -14,3 +15,6 @@ returns-in-Ok-finish_line-clause-acknowledged g c = record {
   count = c.in-Ok-finish_line.ensures.count;
   remembered = λ told. c.in-Ok-finish_line.ensures.remembered told;
 }
+
+pub returns-in-Err-clause-stands : goal.returns-in-Err-clause-stands
+returns-in-Err-clause-stands g c tells = keeps_itself _ (g.P.Platform.outside c.args.platform.now) _ _ tt

@@ -1,4 +1,5 @@
-use Rattle.std.proofs.Common.{ℕ, List, [], Option, sym, subst}
+use Rattle.tdb_run.proofs.Standing.{keeps_itself}
+use Rattle.std.proofs.Common.{refl, ℕ, List, [], Option, sym, subst}
 use Rattle.std.specs.Prelude.{OnOk}
 use Rattle.tdb_run.specs.Acknowledged.{commits_after}
 use Rattle.tdb_run.specs.Growth.{Remembers}
@@ -32,3 +33,6 @@ returns-in-Some-clause-may_be_remembered g c tells =
     let new = c.commit_note.new.platform in
     subst (λ (n : Option (List ℕ)). Remembers g.P.Platform.outside g.P.Platform.crash_states (store_of c.args.log.now) old new [] (commits_after c.args.log.now.head.count (changes_of_note n))) (sym c.in-Some.is)
     (remembers_any g.P.Platform.outside g.P.Platform.crash_states g.met.P.Platform.counts (store_of c.args.log.now) old new _ c.commit_note.result (c.commit_note.ensures.history tells))
+
+pub returns-in-None-clause-stands : goal.returns-in-None-clause-stands
+returns-in-None-clause-stands g c tells = keeps_itself _ (g.P.Platform.outside c.args.platform.now) _ _ refl

@@ -1,6 +1,7 @@
 use Rattle.std.proofs.Common.{[], inl, refl}
 use Rattle.tdb_run.specs.LogState.{store_of}
 use Rattle.tdb_run.proofs.Remembering.{remembers_itself}
+use Rattle.tdb_run.proofs.Standing.{keeps_itself}
 use Rattle.tdb_run.proofs.Conversing.{served_none}
 use Rattle.tdb_run.proofs.serving.serve.Goals as goal
 
@@ -14,3 +15,6 @@ returns-in_default-clause-remembered g c = record {
   next = inl refl;
   remembered = λ told. remembers_itself g.P.Platform.outside g.P.Platform.crash_states g.met.P.Platform.counts (store_of c.args.log.now) c.args.platform.now [] told c.requires.settled;
 }
+
+pub returns-in_default-clause-stands : goal.returns-in_default-clause-stands
+returns-in_default-clause-stands g c told = keeps_itself _ (g.P.Platform.outside c.args.platform.now) _ _ tt

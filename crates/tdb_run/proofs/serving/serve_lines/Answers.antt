@@ -1,11 +1,14 @@
 use Rattle.std.proofs.lemmas.Bool.{false≢true}
-use Rattle.std.proofs.Common.{rules, ℕ, List, [], subst, inl, inr, refl, sym, ◌∙◌, arith}
+use Rattle.std.proofs.Common.{rules, ℕ, List, [], subst, inl, inr, ⊎_elim, IsTrue, ◌≡◌, refl, sym, ◌∙◌, arith}
 use Rattle.tdb_run.specs.SealedOnly.{OnlySealed}
 use Rattle.tdb_run.proofs.SealedAlong.{only_sealed_along, only_sealed_itself}
 use Rattle.tdb_run.proofs.Conversing.{serving_none, caused_stopped, served_stopped, served_bye, serving_on, less_left, stops_script}
+use Rattle.tdb_run.specs.History.{Store}
+use Rattle.tdb_run.specs.Intact.{KeepsIntact}
 use Rattle.tdb_run.specs.LogState.{store_of}
 use Rattle.tdb_run.proofs.Acknowledging.{count_more, remembers_more, same_store, served_all_stopped}
 use Rattle.tdb_run.proofs.Remembering.{remembers_itself}
+use Rattle.tdb_run.proofs.Standing.{keeps_along, keeps_as, keeps_itself}
 use Rattle.tdb_run.proofs.serving.serve_lines.Goals as goal
 
 pub answering-init : goal.answering-init
@@ -16,6 +19,7 @@ answering-init g c = record {
   room = inr c.requires.room;
   keys = refl;
   segments = refl;
+  stands = λ told. keeps_itself (store_of c.args.log.now) (g.P.Platform.outside c.args.platform.now) c.args.log.now.tail.0 (λ end. c.args.log.now.tail.0 ≡ end) refl;
   sealed = only_sealed_itself c.args.log.now.keys (g.P.Platform.outside c.args.platform.now);
   keeps = record { source_tells = refl; sink_tells = refl; tells = refl; source_faults = omega arith; sink_faults = omega arith; faults = omega arith };
 }
@@ -57,6 +61,11 @@ answering-preserved g c =
       room = c.in-Ok.ensures.room;
       keys = c.in-Ok.ensures.keys ∙ c.answering.invariant.keys;
       segments = c.in-Ok.ensures.segments ∙ c.answering.invariant.segments;
+      stands = λ told.
+          let on : IsTrue (g.P.Platform.outside mid).tells = subst IsTrue (sym before.tells) told in
+          keeps_along (store_of c.args.log.now) (g.P.Platform.outside old) (g.P.Platform.outside mid) (g.P.Platform.outside new) c.args.log.now.tail.0 c.answering.log.tail.0 (λ end. c.answer_one.new.log.tail.0 ≡ end) (g.met.P.Platform.numbered mid on)
+          (c.in-Ok.ensures.acknowledged.remembered on).grows (c.answering.invariant.stands told)
+          (subst (λ (s : Store). KeepsIntact s c.answering.log.tail.0 (g.P.Platform.outside mid) (g.P.Platform.outside new) (λ end. c.answer_one.new.log.tail.0 ≡ end)) (same_store c.answering.log (store_of c.args.log.now) c.answering.invariant.keys c.answering.invariant.segments) (c.in-Ok.ensures.stands on));
       sealed = only_sealed_along c.args.log.now.keys (g.P.Platform.outside c.args.platform.now) (g.P.Platform.outside c.answering.platform) (g.P.Platform.outside c.answer_one.new.platform) c.answering.invariant.keeps.tells c.answering.invariant.sealed (subst (λ (keys : List ℕ). OnlySealed keys (g.P.Platform.outside c.answering.platform) (g.P.Platform.outside c.answer_one.new.platform)) c.answering.invariant.keys c.answer_one.ensures.sealed);
       keeps = record {
         source_tells = keeps.source_tells ∙ before.source_tells;
@@ -110,3 +119,29 @@ returns-in-Err-clause-caused g c =
     caused_stopped (g.S.Source.content c.args.source.now) (g.S.Source.content c.answering.source) (g.S.Source.content c.answer_one.new.source) (g.K.Sink.content c.args.sink.now) (g.K.Sink.content c.answering.sink)
     (g.K.Sink.content c.answer_one.new.sink) (g.P.Platform.outside c.args.platform.now) (g.P.Platform.outside c.answering.platform) (g.P.Platform.outside c.answer_one.new.platform) c.answering.lines c.answer_one.new.lines c.answering.session _
     before.source_faults before.sink_faults before.faults c.in-Err.ensures.stopped
+
+pub returns-then-is_last-clause-stands : goal.returns-then-is_last-clause-stands
+returns-then-is_last-clause-stands g c told =
+    let before = c.answering.invariant.keeps in
+    let old = c.args.platform.now in
+    let mid = c.answering.platform in
+    let new = c.answer_one.new.platform in
+    let on : IsTrue (g.P.Platform.outside mid).tells = subst IsTrue (sym before.tells) told in
+    keeps_along (store_of c.args.log.now) (g.P.Platform.outside old) (g.P.Platform.outside mid) (g.P.Platform.outside new) c.args.log.now.tail.0 c.answering.log.tail.0 _ (g.met.P.Platform.numbered mid on) (c.in-Ok.ensures.acknowledged.remembered on).grows
+    (c.answering.invariant.stands told)
+    (keeps_as (store_of c.args.log.now) (g.P.Platform.outside mid) (g.P.Platform.outside new) c.answering.log.tail.0 _ _ (λ end closed. tt)
+    (subst (λ (s : Store). KeepsIntact s c.answering.log.tail.0 (g.P.Platform.outside mid) (g.P.Platform.outside new) (λ end. c.answer_one.new.log.tail.0 ≡ end)) (same_store c.answering.log (store_of c.args.log.now) c.answering.invariant.keys c.answering.invariant.segments)
+    (c.in-Ok.ensures.stands on)))
+
+pub returns-in-Err-clause-stands : goal.returns-in-Err-clause-stands
+returns-in-Err-clause-stands g c told =
+    let before = c.answering.invariant.keeps in
+    let old = c.args.platform.now in
+    let mid = c.answering.platform in
+    let new = c.answer_one.new.platform in
+    let on : IsTrue (g.P.Platform.outside mid).tells = subst IsTrue (sym before.tells) told in
+    let grows = ⊎_elim (λ left. (left.2 on).grows) (λ line. (line.3 on).grows) c.in-Err.ensures.stops_behind in
+    keeps_along (store_of c.args.log.now) (g.P.Platform.outside old) (g.P.Platform.outside mid) (g.P.Platform.outside new) c.args.log.now.tail.0 c.answering.log.tail.0 _ (g.met.P.Platform.numbered mid on) grows (c.answering.invariant.stands told)
+    (keeps_as (store_of c.args.log.now) (g.P.Platform.outside mid) (g.P.Platform.outside new) c.answering.log.tail.0 _ _ (λ end closed. tt)
+    (subst (λ (s : Store). KeepsIntact s c.answering.log.tail.0 (g.P.Platform.outside mid) (g.P.Platform.outside new) (λ end. Unit {0})) (same_store c.answering.log (store_of c.args.log.now) c.answering.invariant.keys c.answering.invariant.segments)
+    (c.in-Err.ensures.stands on)))

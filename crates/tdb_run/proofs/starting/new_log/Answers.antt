@@ -1,11 +1,14 @@
-use Rattle.std.proofs.Common.{ℕ, ◌+◌, List, [], ◌∷◌, IsTrue, sym, subst}
+use Rattle.std.specs.Prelude.{OnOk}
+use Rattle.std.proofs.Common.{◌≡◌, ℕ, ◌+◌, List, [], ◌∷◌, IsTrue, sym, subst}
 use Rattle.tdb_base.specs.declared.suite.Suite.TheVariants.{Plain}
 use Rattle.tdb_model.specs.Opening.{opening_changes}
 use Rattle.tdb_run.specs.Growth.{Added, Remembers}
 use Rattle.tdb_run.specs.History.{Store, opening}
 use Rattle.tdb_run.proofs.Acknowledging.{same_store}
 use Rattle.tdb_run.proofs.Remembering.{remembers_ok, remembers_any, remembers_none, remembers_along}
+use Rattle.tdb_run.specs.Intact.{KeepsIntact}
 use Rattle.tdb_run.specs.SealedOnly.{OnlySealed}
+use Rattle.tdb_run.proofs.Standing.{intact_at_zero, keeps_along, on_ok_is}
 use Rattle.tdb_run.proofs.SealedAlong.{only_sealed_along}
 use Rattle.tdb_run.proofs.starting.new_log.Goals as goal
 
@@ -66,3 +69,41 @@ pub returns-in-Err-clause-may_be_opened : goal.returns-in-Err-clause-may_be_open
 returns-in-Err-clause-may_be_opened g c tells =
     let store : Store = record { secret = c.args.secret.now; segments = c.args.segments } in
     remembers_none g.P.Platform.outside g.P.Platform.crash_states g.met.P.Platform.counts store c.args.platform.now c.format.new.platform opening c.format.result (c.format.ensures.history tells)
+
+pub returns-in-Err-clause-intact : goal.returns-in-Err-clause-intact
+returns-in-Err-clause-intact g c tells =
+    let old = g.P.Platform.outside c.args.platform.now in
+    let store : Store = record { secret = c.args.secret.now; segments = c.args.segments } in
+    let k = c.format.ensures.stands tells in
+    (k.end, tt, λ unforged. k.kept unforged (intact_at_zero old.trace.written store 262144 old.anchor (c.requires.first tells)))
+
+pub returns-in-Ok-make_partitions-clause-intact : goal.returns-in-Ok-make_partitions-clause-intact
+returns-in-Ok-make_partitions-clause-intact g c tells =
+    let store : Store = record { secret = c.args.secret.now; segments = c.args.segments } in
+    let old = g.P.Platform.outside c.args.platform.now in
+    let mid = g.P.Platform.outside c.format.new.platform in
+    let new = g.P.Platform.outside c.make_partitions.new.platform in
+    let log = c.in-Ok.log in
+    let told : IsTrue mid.tells = subst IsTrue (sym c.format.ensures.tells) tells in
+    let closes : ℕ → Type 0 = λ end. OnOk c.make_partitions.result (c.make_partitions.new.self.tail.0 ≡ end) in
+    let two : KeepsIntact store log.tail.0 mid new closes =
+    subst (λ (s : Store). KeepsIntact s log.tail.0 mid new closes) (same_store log store c.in-Ok.ensures.start.0 c.in-Ok.ensures.start.3) (c.make_partitions.ensures.stands told) in
+    let k = keeps_along store old mid new 262144 log.tail.0 closes (g.met.P.Platform.numbered c.format.new.platform told) (c.make_partitions.ensures.history told).grows (c.in-Ok.ensures.stands tells) two in (
+      k.end,
+      on_ok_is (c.make_partitions.new.self.tail.0 ≡ k.end) c.make_partitions.result c.in-Ok-make_partitions.field-0 c.in-Ok-make_partitions.is k.closed,
+      λ unforged. k.kept unforged (intact_at_zero old.trace.written store 262144 old.anchor (c.requires.first tells)),
+    )
+
+pub returns-in-Err-make_partitions-clause-intact : goal.returns-in-Err-make_partitions-clause-intact
+returns-in-Err-make_partitions-clause-intact g c tells =
+    let store : Store = record { secret = c.args.secret.now; segments = c.args.segments } in
+    let old = g.P.Platform.outside c.args.platform.now in
+    let mid = g.P.Platform.outside c.format.new.platform in
+    let new = g.P.Platform.outside c.make_partitions.new.platform in
+    let log = c.in-Ok.log in
+    let told : IsTrue mid.tells = subst IsTrue (sym c.format.ensures.tells) tells in
+    let closes : ℕ → Type 0 = λ end. OnOk c.make_partitions.result (c.make_partitions.new.self.tail.0 ≡ end) in
+    let two : KeepsIntact store log.tail.0 mid new closes =
+    subst (λ (s : Store). KeepsIntact s log.tail.0 mid new closes) (same_store log store c.in-Ok.ensures.start.0 c.in-Ok.ensures.start.3) (c.make_partitions.ensures.stands told) in
+    let k = keeps_along store old mid new 262144 log.tail.0 closes (g.met.P.Platform.numbered c.format.new.platform told) (c.make_partitions.ensures.history told).grows (c.in-Ok.ensures.stands tells) two in
+    (k.end, tt, λ unforged. k.kept unforged (intact_at_zero old.trace.written store 262144 old.anchor (c.requires.first tells)))

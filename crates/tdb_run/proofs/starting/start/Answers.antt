@@ -1,5 +1,11 @@
 use Rattle.std.proofs.Common.{ℕ, List, [], inl, inr, IsTrue, refl, sym, subst, ◌∙◌}
 use Rattle.tdb_run.specs.History.{opening}
+use Rattle.tdb_base.specs.Trace.{Trace}
+use Rattle.tdb_mark.specs.CommitText.{commit_key_of, commit_of}
+use Rattle.tdb_mark.proofs.UnforgedLemmas.{IsUnforged-before}
+use Rattle.tdb_platform.specs.Outside.{Anchor}
+use Rattle.tdb_run.specs.History.{Store}
+use Rattle.tdb_run.specs.Intact.{IsIntactBefore, KeepsIntact}
 use Rattle.tdb_run.specs.LogState.{store_of}
 use Rattle.tdb_run.proofs.Acknowledging.{same_store, started_none, started_served}
 use Rattle.tdb_run.proofs.Remembering.{remembers_itself, run_remembers, run_remembers_nothing}
@@ -57,3 +63,43 @@ returns-clause-remembered g c =
     started_served g.P.Platform.outside g.P.Platform.crash_states g.met.P.Platform.counts g.met.P.Platform.numbered (record { secret = c.args.secret.now; segments = c.args.segments }) (store_of c.in-Ok-new_log.log) c.args.platform.now c.anchor.new.self c.new_log.new.platform c.serve.new.platform
     _ _ _ _ c.in-Ok-new_log.log.head.count _ (same_store c.in-Ok-new_log.log (record { secret = c.args.secret.now; segments = c.args.segments }) c.in-Ok-new_log.ensures.keys c.in-Ok-new_log.ensures.segments) c.in-Ok-new_log.ensures.count c.anchor.ensures.told.tells c.new_log.ensures.tells c.anchor.ensures.trace c.anchor.ensures.anchor
     c.anchor.ensures.time c.anchor.ensures.now c.in-Ok-new_log.ensures.opened c.serve.ensures.remembered
+
+pub returns-in-Err-clause-intact : goal.returns-in-Err-clause-intact
+returns-in-Err-clause-intact g c told unforged is =
+    let old = g.P.Platform.outside c.args.platform.now in
+    let new = g.P.Platform.outside c.anchor.new.self in
+    let store : Store = record { secret = c.args.secret.now; segments = c.args.segments } in (
+      is.0,
+      subst (λ (a : Anchor). IsIntactBefore new.trace.written store is.0 a) (sym (c.anchor.ensures.anchor told))
+          (subst (λ (t : Trace). IsIntactBefore t.written store is.0 old.anchor) (sym (c.anchor.ensures.trace told)) is.1),
+    )
+
+pub returns-in-Ok-clause-intact : goal.returns-in-Ok-clause-intact
+returns-in-Ok-clause-intact g c told unforged is =
+    let old = g.P.Platform.outside c.args.platform.now in
+    let new = g.P.Platform.outside c.anchor.new.self in
+    let store : Store = record { secret = c.args.secret.now; segments = c.args.segments } in (
+      is.0,
+      subst (λ (a : Anchor). IsIntactBefore new.trace.written store is.0 a) (sym (c.anchor.ensures.anchor told))
+          (subst (λ (t : Trace). IsIntactBefore t.written store is.0 old.anchor) (sym (c.anchor.ensures.trace told)) is.1),
+    )
+
+pub returns-in-Err-new_log-clause-intact : goal.returns-in-Err-new_log-clause-intact
+returns-in-Err-new_log-clause-intact g c told unforged is =
+    let on : IsTrue (g.P.Platform.outside c.anchor.new.self).tells = subst IsTrue (sym c.anchor.ensures.told.tells) told in
+    let k = c.new_log.ensures.intact on in
+    (k.0, k.2 unforged)
+
+pub returns-clause-intact : goal.returns-clause-intact
+returns-clause-intact g c told unforged is =
+    let store : Store = record { secret = c.args.secret.now; segments = c.args.segments } in
+    let mid = g.P.Platform.outside c.new_log.new.platform in
+    let new = g.P.Platform.outside c.serve.new.platform in
+    let log = c.in-Ok-new_log.log in
+    let on : IsTrue (g.P.Platform.outside c.anchor.new.self).tells = subst IsTrue (sym c.anchor.ensures.told.tells) told in
+    let then : IsTrue mid.tells = subst IsTrue (sym c.new_log.ensures.tells) on in
+    let k = c.in-Ok-new_log.ensures.intact on in
+    let served : KeepsIntact store log.tail.0 mid new (λ end. Unit {0}) =
+    subst (λ (s : Store). KeepsIntact s log.tail.0 mid new (λ end. Unit {0})) (same_store log store c.in-Ok-new_log.ensures.keys c.in-Ok-new_log.ensures.segments) (c.serve.ensures.stands then) in
+    let earlier = IsUnforged-before mid.trace new.trace (commit_of (commit_key_of c.args.secret.now)) (g.met.P.Platform.numbered c.new_log.new.platform then) (c.serve.ensures.remembered.remembered then).grows unforged in
+    (served.end, served.kept unforged (subst (λ (e : ℕ). IsIntactBefore mid.trace.written store e mid.anchor) (sym k.1) (k.2 earlier)))
