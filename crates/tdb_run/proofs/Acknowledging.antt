@@ -6,11 +6,12 @@ use Rattle.tdb_platform.specs.CrashStates.{CrashStates, Elapses, LeavesNoMore}
 use Rattle.tdb_stream.specs.SinkContent.{SinkContent}
 use Rattle.tdb_stream.specs.SourceContent.{SourceContent}
 use Rattle.tdb_script.specs.ReplySpelling.{reply_spelling}
-use Rattle.tdb_run.specs.Acknowledged.{Acknowledged, commits_after, commits_of, IsOfNextLine, ServedAll, Started, StopsBehind}
+use Rattle.tdb_run.specs.Acknowledged.{Acknowledged, Begins, commits_after, commits_of, IsOfNextLine, ServedAll, Started, StopsBehind}
 use Rattle.tdb_run.specs.Growth.{Remembers, RunRemembers}
 use Rattle.tdb_model.specs.Apply.{History}
 use Rattle.tdb_run.specs.History.{Store, opening}
 use Rattle.tdb_run.specs.LastLine.{EndsWith}
+use Rattle.tdb_run.specs.Replies.{Conversation}
 use Rattle.tdb_run.specs.Served.{IsAtOnce}
 use Rattle.tdb_run.specs.StatusLine.{status_line}
 use Rattle.tdb_stream.specs.AddsPrefix.{AddsPrefix}
@@ -88,9 +89,9 @@ module _ {D : Type 0} (outside : D → Outside) (crash_states : D → CrashState
     (s : Serving came now before after lines session) (store : Store) (old new : D) (first : ℕ) where
   module _ (remembered : IsTrue (outside old).tells → Remembers outside crash_states store old new (commits_of first s.conversation.answers) []) where
     all_left : (status : Status) → later.tells ≡ now.tells → (left : LeavesUnanswered now later lines next) → StopsFor left status → ServedAll outside crash_states came later before after store old new first status
-    all_left End on left stops = record { served = served_left came now later same before after still lines next session s End on left stops; maybe = []; next = inl refl; remembered = remembered }
-    all_left SourceFault on left stops = record { served = served_left came now later same before after still lines next session s SourceFault on left stops; maybe = []; next = inl refl; remembered = remembered }
-    all_left Memory on left stops = record { served = served_left came now later same before after still lines next session s Memory on left stops; maybe = []; next = inl refl; remembered = remembered }
+    all_left End on left stops = record { served = served_left came now later same before after still lines next session s End on left stops; maybe = []; none_at_done = tt; next = inl refl; remembered = remembered }
+    all_left SourceFault on left stops = record { served = served_left came now later same before after still lines next session s SourceFault on left stops; maybe = []; none_at_done = tt; next = inl refl; remembered = remembered }
+    all_left Memory on left stops = record { served = served_left came now later same before after still lines next session s Memory on left stops; maybe = []; none_at_done = tt; next = inl refl; remembered = remembered }
     all_left Done on left stops = absurd stops
     all_left Usage on left stops = absurd stops
     all_left AnchorCount on left stops = absurd stops
@@ -109,8 +110,8 @@ module _ {D : Type 0} (outside : D → Outside) (crash_states : D → CrashState
     of_next = inr (read.line, unread next, given, refl, read.answered, refl)
 
     all_line : (was is : Outside) (status : Status) → IsStopOfCommit was is status → ServedAll outside crash_states came later before after store old new first status
-    all_line was is Memory stops = record { served = served_line came now later same before after still lines next session s was is Memory given a stops; maybe = maybe; next = of_next; remembered = remembered }
-    all_line was is PlatformFault stops = record { served = served_line came now later same before after still lines next session s was is PlatformFault given a stops; maybe = maybe; next = of_next; remembered = remembered }
+    all_line was is Memory stops = record { served = served_line came now later same before after still lines next session s was is Memory given a stops; maybe = maybe; none_at_done = tt; next = of_next; remembered = remembered }
+    all_line was is PlatformFault stops = record { served = served_line came now later same before after still lines next session s was is PlatformFault given a stops; maybe = maybe; none_at_done = tt; next = of_next; remembered = remembered }
     all_line was is Done stops = absurd stops
     all_line was is Usage stops = absurd stops
     all_line was is AnchorCount stops = absurd stops
@@ -119,8 +120,8 @@ module _ {D : Type 0} (outside : D → Outside) (crash_states : D → CrashState
     all_line was is End stops = absurd stops
 
     all_put : (last : SinkContent) (status : Status) → IsPutFor (reply_spelling given.reply) after last status → ServedAll outside crash_states came later before last store old new first status
-    all_put last Memory stops = record { served = served_put came now later same before after still lines next session s last Memory given a stops; maybe = maybe; next = of_next; remembered = remembered }
-    all_put last SinkFault stops = record { served = served_put came now later same before after still lines next session s last SinkFault given a stops; maybe = maybe; next = of_next; remembered = remembered }
+    all_put last Memory stops = record { served = served_put came now later same before after still lines next session s last Memory given a stops; maybe = maybe; none_at_done = tt; next = of_next; remembered = remembered }
+    all_put last SinkFault stops = record { served = served_put came now later same before after still lines next session s last SinkFault given a stops; maybe = maybe; none_at_done = tt; next = of_next; remembered = remembered }
     all_put last Done stops = absurd stops
     all_put last Usage stops = absurd stops
     all_put last AnchorCount stops = absurd stops
@@ -157,16 +158,20 @@ module _ {D : Type 0} (outside : D → Outside) (crash_states : D → CrashState
   all_whole Memory s put = record { replies = replies_whole came gone before middle after same Memory s.served put; begun = s.begun; maybe = s.maybe; begins = s.begins; remembered = s.remembered }
   all_whole End s put = record { replies = replies_whole came gone before middle after same End s.served put; begun = s.begun; maybe = s.maybe; begins = s.begins; remembered = s.remembered }
 
+  cut_begins : (c : Conversation came gone) (status : Status) (begun more : History) → Begins c status begun more → Begins c SinkFault begun more
+  cut_begins c status begun more (inl b) = inl (b.0, b.1, tt)
+  cut_begins c status begun more (inr b) = inr (b.0, b.1, tt, b.3)
+
   all_cut : (status : Status) → Started outside crash_states came gone before middle store old new status → (status ≢ Done) × (status ≢ SinkFault) → (IsTrue middle.tells → AddsPrefix (status_line status) middle.held after.held)
       → Acknowledged outside crash_states came gone before after store old new SinkFault
   all_cut Done s had put = absurd (had.0 refl)
   all_cut SinkFault s had put = absurd (had.1 refl)
-  all_cut Usage s had put = record { replies = replies_cut came gone before middle after same Usage s.served had put; begun = s.begun; maybe = s.maybe; begins = s.begins; remembered = s.remembered }
-  all_cut AnchorCount s had put = record { replies = replies_cut came gone before middle after same AnchorCount s.served had put; begun = s.begun; maybe = s.maybe; begins = s.begins; remembered = s.remembered }
-  all_cut PlatformFault s had put = record { replies = replies_cut came gone before middle after same PlatformFault s.served had put; begun = s.begun; maybe = s.maybe; begins = s.begins; remembered = s.remembered }
-  all_cut SourceFault s had put = record { replies = replies_cut came gone before middle after same SourceFault s.served had put; begun = s.begun; maybe = s.maybe; begins = s.begins; remembered = s.remembered }
-  all_cut Memory s had put = record { replies = replies_cut came gone before middle after same Memory s.served had put; begun = s.begun; maybe = s.maybe; begins = s.begins; remembered = s.remembered }
-  all_cut End s had put = record { replies = replies_cut came gone before middle after same End s.served had put; begun = s.begun; maybe = s.maybe; begins = s.begins; remembered = s.remembered }
+  all_cut Usage s had put = record { replies = replies_cut came gone before middle after same Usage s.served had put; begun = s.begun; maybe = s.maybe; begins = cut_begins s.served.conversation Usage s.begun s.maybe s.begins; remembered = s.remembered }
+  all_cut AnchorCount s had put = record { replies = replies_cut came gone before middle after same AnchorCount s.served had put; begun = s.begun; maybe = s.maybe; begins = cut_begins s.served.conversation AnchorCount s.begun s.maybe s.begins; remembered = s.remembered }
+  all_cut PlatformFault s had put = record { replies = replies_cut came gone before middle after same PlatformFault s.served had put; begun = s.begun; maybe = s.maybe; begins = cut_begins s.served.conversation PlatformFault s.begun s.maybe s.begins; remembered = s.remembered }
+  all_cut SourceFault s had put = record { replies = replies_cut came gone before middle after same SourceFault s.served had put; begun = s.begun; maybe = s.maybe; begins = cut_begins s.served.conversation SourceFault s.begun s.maybe s.begins; remembered = s.remembered }
+  all_cut Memory s had put = record { replies = replies_cut came gone before middle after same Memory s.served had put; begun = s.begun; maybe = s.maybe; begins = cut_begins s.served.conversation Memory s.begun s.maybe s.begins; remembered = s.remembered }
+  all_cut End s had put = record { replies = replies_cut came gone before middle after same End s.served had put; begun = s.begun; maybe = s.maybe; begins = cut_begins s.served.conversation End s.begun s.maybe s.begins; remembered = s.remembered }
 
   -- a run's last line behind what it remembers
   pub acknowledged_of : (status last : Status) → Started outside crash_states came gone before middle store old new status → EndsWith middle after status last → Acknowledged outside crash_states came gone before after store old new last
@@ -177,10 +182,10 @@ module _ {D : Type 0} (outside : D → Outside) (crash_states : D → CrashState
 module _ {D : Type 0} (outside : D → Outside) (crash_states : D → CrashStates) (came : SourceContent) (before : SinkContent) (store : Store) (old new : D) (maybe : History) (is_opening : (maybe ≡ []) ⊎ (maybe ≡ opening))
     (remembered : IsTrue (outside old).tells → RunRemembers outside crash_states store old new [] maybe) where
   pub started_none : (status : Status) → IsAtOnce status → Started outside crash_states came came before before store old new status
-  started_none Usage at_once = record { served = served_none came before Usage at_once; begun = []; maybe = maybe; begins = inr (refl, refl, is_opening); remembered = remembered }
-  started_none AnchorCount at_once = record { served = served_none came before AnchorCount at_once; begun = []; maybe = maybe; begins = inr (refl, refl, is_opening); remembered = remembered }
-  started_none PlatformFault at_once = record { served = served_none came before PlatformFault at_once; begun = []; maybe = maybe; begins = inr (refl, refl, is_opening); remembered = remembered }
-  started_none Memory at_once = record { served = served_none came before Memory at_once; begun = []; maybe = maybe; begins = inr (refl, refl, is_opening); remembered = remembered }
+  started_none Usage at_once = record { served = served_none came before Usage at_once; begun = []; maybe = maybe; begins = inr (refl, refl, tt, is_opening); remembered = remembered }
+  started_none AnchorCount at_once = record { served = served_none came before AnchorCount at_once; begun = []; maybe = maybe; begins = inr (refl, refl, tt, is_opening); remembered = remembered }
+  started_none PlatformFault at_once = record { served = served_none came before PlatformFault at_once; begun = []; maybe = maybe; begins = inr (refl, refl, tt, is_opening); remembered = remembered }
+  started_none Memory at_once = record { served = served_none came before Memory at_once; begun = []; maybe = maybe; begins = inr (refl, refl, tt, is_opening); remembered = remembered }
   started_none Done at_once = absurd at_once
   started_none SourceFault at_once = absurd at_once
   started_none SinkFault at_once = absurd at_once
@@ -204,6 +209,7 @@ module _ {D : Type 0} (outside : D → Outside) (crash_states : D → CrashState
             inl (
               refl,
               subst (λ (n : ℕ). IsOfNextLine all.served.conversation.state all.served.conversation.unanswered (n + length (commits_of n answers)) all.maybe) counted all.next,
+              all.none_at_done,
             );
         remembered = λ told.
             let on : IsTrue (outside first).tells = subst IsTrue (sym same) told in

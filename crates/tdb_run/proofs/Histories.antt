@@ -1,5 +1,5 @@
 -- A history stays as more is written, and a put of a batch and a text makes it longer.
-use Rattle.std.proofs.Common.{◌≡◌, ◌⊎◌, inl, inr, ◌+◌, ℕ, List, [], ◌∷◌, ◌++◌, Option, Some, Bool, true, cond, ◌&&◌, ◌==◌, replicate, refl, sym, ◌∙◌, ap, subst, append-nil, append_assoc, add-one}
+use Rattle.std.proofs.Common.{◌≡◌, ◌⊎◌, inl, inr, ◌+◌, ℕ, List, [], ◌∷◌, ◌++◌, Option, Some, Bool, true, cond, ◌&&◌, ◌==◌, replicate, refl, sym, ◌∙◌, ap, subst, append-nil, append_assoc, add-one, length, None, ◌/◌, ◌-◌}
 use Rattle.std.specs.List.{AllByRecursion}
 use Rattle.std.specs.Str.{bytes_eq}
 use Rattle.std.proofs.lemmas.Bool.Decides.{eqb_tells}
@@ -26,7 +26,7 @@ use Rattle.tdb_platform.specs.Outside.{Anchor, Outside}
 use Rattle.tdb_seal.specs.SealedRecord.{IsSealedRecord}
 use Rattle.tdb_run.specs.Keys.{partition_key, system_key}
 use Rattle.tdb_node.specs.declared.table.Table.{Table}
-use Rattle.tdb_node.specs.SegmentTable.{IsTable, table_bytes}
+use Rattle.tdb_node.specs.SegmentTable.{IsTable, IsTableValue, IsUsed, table_bytes}
 use Rattle.tdb_run.specs.Records.{list_name, note_name, table_name, make_entry, note_entry}
 use Rattle.tdb_model.specs.declared.change.Change.{Change}
 use Rattle.tdb_model.specs.declared.change.Change.TheVariants.{Write, Free, Make, Copy, Drop}
@@ -62,7 +62,7 @@ module _ (f g : Finds) (finer : Finer f g) (secret : List ℕ) where
       let h = checkpoint.1 in
       inl (
         checkpoint.0,
-        record { sealed = h.sealed; table = h.table; found = finer c.first h.sealed h.found; opened = h.opened; is_table = h.is_table; segments = h.segments },
+        record { sealed = h.sealed; table = h.table; found = finer c.first h.sealed h.found; opened = h.opened; is_table = h.is_table; value = h.value; segments = h.segments; used = h.used; root = h.root },
         checkpoint.2,
       )
   adds_stays c added (inr commit) =
@@ -230,19 +230,19 @@ one_of_more (q ∷ ps) p place bytes (inl e) = inl e
 one_of_more (q ∷ ps) p place bytes (inr is) = inr (one_of_more ps p place bytes is)
 
 -- the record behind these pieces, by its piece
-last_found : (ps : List Placed) (place : ℕ) (sealed : List ℕ) (piece : Piece) → sha256 sealed ≡ piece.digest.0 → place ≡ piece.place.0
+last_found : (ps : List Placed) (place : ℕ) (sealed : List ℕ) (piece : Piece) → sha256 sealed ≡ piece.digest.0 → place ≡ piece.place.0 → piece.length ≡ length sealed
     → in_pieces (ps ++ record { place = place; bytes = sealed } ∷ []) piece sealed
-last_found ps place sealed piece digest at =
-    (digest, subst (λ (k : ℕ). IsOneOf (ps ++ record { place = place; bytes = sealed } ∷ []) k sealed) at (one_of_last ps (record { place = place; bytes = sealed })))
+last_found ps place sealed piece digest at size =
+    (digest, subst (λ (k : ℕ). IsOneOf (ps ++ record { place = place; bytes = sealed } ∷ []) k sealed) at (one_of_last ps (record { place = place; bytes = sealed })), size)
 
 -- A list behind the records of its writes says the changes.
 pub list_adds : (secret : List ℕ) (n place : ℕ) (ps : List Placed) (c : Commit) (entries : List Entry) (sealed : List ℕ) (changes : List Change)
-    → c.kind ≡ 1 → c.count ≡ n → c.suite ≡ Plain → sha256 sealed ≡ c.first.digest.0 → place ≡ c.first.place.0 → IsSealedRecord (system_key secret) list_name (list_bytes entries) sealed
+    → c.kind ≡ 1 → c.count ≡ n → c.suite ≡ Plain → sha256 sealed ≡ c.first.digest.0 → place ≡ c.first.place.0 → c.first.length ≡ length sealed → IsSealedRecord (system_key secret) list_name (list_bytes entries) sealed
     → AllByRecursion IsEntryValue entries → IsList entries → AreChangesOf (in_pieces ps) secret entries changes
     → Adds (in_pieces (ps ++ record { place = place; bytes = sealed } ∷ [])) secret c ((n, changes) ∷ [])
-list_adds secret n place ps c entries sealed changes kind count suite digest at opened values list are =
+list_adds secret n place ps c entries sealed changes kind count suite digest at size opened values list are =
     let p : Placed = record { place = place; bytes = sealed } in
-    let finer : Finer (in_pieces ps) (in_pieces (ps ++ p ∷ [])) = λ piece bytes found. (found.0, one_of_more ps p piece.place.0 bytes found.1) in
+    let finer : Finer (in_pieces ps) (in_pieces (ps ++ p ∷ [])) = λ piece bytes found. (found.0, one_of_more ps p piece.place.0 bytes found.1, found.2) in
     inr (
       kind,
       (
@@ -251,7 +251,7 @@ list_adds secret n place ps c entries sealed changes kind count suite digest at 
           sealed = sealed;
           plain = list_bytes entries;
           entries = entries;
-          found = last_found ps place sealed c.first digest at;
+          found = last_found ps place sealed c.first digest at size;
           opened = subst (λ (s : Suite). IsSealedRecord (system_key secret) (record { kind = 5; suite = s; home = 0; rank = 0 }) (list_bytes entries) sealed) (sym suite) opened;
           list = record { values = values; list = list; spelled = refl };
           each = changes_stay (in_pieces ps) (in_pieces (ps ++ p ∷ [])) finer secret entries changes are;
@@ -260,30 +260,33 @@ list_adds secret n place ps c entries sealed changes kind count suite digest at 
       ),
     )
 
-pub note_changes : (secret : List ℕ) (place : ℕ) (ps : List Placed) (piece : Piece) (sealed text : List ℕ) → sha256 sealed ≡ piece.digest.0 → place ≡ piece.place.0
+pub note_changes : (secret : List ℕ) (place : ℕ) (ps : List Placed) (piece : Piece) (sealed text : List ℕ) → sha256 sealed ≡ piece.digest.0 → place ≡ piece.place.0 → piece.length ≡ length sealed
     → IsSealedRecord (partition_key secret 1 2) note_name (stored_note_bytes text) sealed
     → AreChangesOf (in_pieces (ps ++ record { place = place; bytes = sealed } ∷ [])) secret (note_entry piece ∷ []) (write_of_note text ∷ [])
-note_changes secret place ps piece sealed text digest at opened =
+note_changes secret place ps piece sealed text digest at size opened =
     let p : Placed = record { place = place; bytes = sealed } in
     let written : IsWritten (in_pieces (ps ++ p ∷ [])) secret (note_entry piece) (stored_note_bytes text) =
-    record { suite = Plain; numbered = refl; sealed = sealed; found = last_found ps place sealed piece digest at; opened = opened } in
+    record { suite = Plain; numbered = refl; sealed = sealed; found = last_found ps place sealed piece digest at size; opened = opened } in
     ((refl, refl, refl, written), tt)
 
 pub makes_changes : (f : Finds) (secret : List ℕ) → AreChangesOf f secret (make_entry 1 ∷ make_entry 2 ∷ []) (opening_changes Plain)
 makes_changes f secret = ((refl, refl, refl), ((refl, refl, refl), tt))
 
 -- A table behind no other record is the one that a checkpoint names.
-pub table_adds : (secret : List ℕ) (place : ℕ) (ps : List Placed) (c : Commit) (table : Table) (sealed : List ℕ) → c.kind ≡ 2 → c.suite ≡ Plain → sha256 sealed ≡ c.first.digest.0 → place ≡ c.first.place.0
-    → IsSealedRecord (system_key secret) table_name (table_bytes table) sealed → IsTable table → table.segments ≡ c.segments
+pub table_adds : (secret : List ℕ) (place : ℕ) (ps : List Placed) (c : Commit) (table : Table) (sealed : List ℕ) → c.kind ≡ 2 → c.suite ≡ Plain → sha256 sealed ≡ c.first.digest.0 → place ≡ c.first.place.0 → c.first.length ≡ length sealed
+    → IsSealedRecord (system_key secret) table_name (table_bytes table) sealed → IsTable table → IsTableValue table → table.segments ≡ c.segments → IsUsed table (c.first.place.0 / 262144 - 1) → c.root ≡ None
     → Adds (in_pieces (ps ++ record { place = place; bytes = sealed } ∷ [])) secret c []
-table_adds secret place ps c table sealed kind suite digest at opened is_table segments =
+table_adds secret place ps c table sealed kind suite digest at size opened is_table value segments used root =
     let p : Placed = record { place = place; bytes = sealed } in
     let named : HasTable (in_pieces (ps ++ p ∷ [])) secret c = record {
       sealed = sealed;
       table = table;
-      found = last_found ps place sealed c.first digest at;
+      found = last_found ps place sealed c.first digest at size;
       opened = subst (λ (s : Suite). IsSealedRecord (system_key secret) (record { kind = 4; suite = s; home = 0; rank = 0 }) (table_bytes table) sealed) (sym suite) opened;
       is_table = is_table;
+      value = value;
       segments = segments;
+      used = used;
+      root = λ first. root;
     } in
     inl (kind, named, refl)

@@ -129,6 +129,7 @@ module _ (store : Store) (t u : Trace) (n from end : ℕ) (text : List ℕ) (ps 
     stays piece.place.0 bytes is.1 (clear_of_record piece.place.0 (length bytes) is.2 is.3),
     is.2,
     omega (arith, is.3, goes_on),
+    is.4,
   )
 
   text_stays : (grammar : List ℕ → Option Commit) (c : Commit) → 1 ≤ c.count → c.count ≤ n → n ≤ c.count + 1000 → TextStands t.written grammar c → TextStands u.written grammar c
@@ -177,6 +178,7 @@ module _ (store : Store) (t u : Trace) (n from end : ℕ) (mark text : List ℕ)
         subst (λ (v : Trace). StandsAt v.written piece.place.0 bytes) (sym last) stands,
         omega (arith, low, begins),
         high,
+        found.2,
       )
 
   text_stands : TextStands u.written (commit_of (commit_key_of store.secret)) c

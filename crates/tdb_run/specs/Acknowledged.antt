@@ -21,6 +21,7 @@ use Rattle.tdb_run.specs.declared.log.Log.{Log}
 use Rattle.tdb_run.specs.declared.script_lines.ScriptLines.{ScriptLines}
 use Rattle.tdb_run.specs.declared.session.Session.{Session}
 use Rattle.tdb_run.specs.declared.status.Status.{Status}
+use Rattle.tdb_run.specs.declared.status.Status.TheVariants.{Done, Usage, AnchorCount, PlatformFault, SourceFault, SinkFault, Memory, End}
 
 -- the commit of these changes, where so many came before it: where nothing changes none is made
 abbrev pub commits_after : ℕ → List Change → History
@@ -36,6 +37,17 @@ commits_of count (given ∷ answers) = commits_after count given.changes ++ comm
 abbrev pub IsOfNextLine : ScriptState → List ℕ → ℕ → History → Type 0
 IsOfNextLine state unanswered count maybe =
     (maybe ≡ []) ⊎ ((line : List ℕ) × (later : List ℕ) × (given : Answer) × (unanswered ≡ line ++ 10 ∷ later) × Answers state line given × (maybe ≡ commits_after count given.changes))
+
+-- behind the line that was answered `bye` nothing is committed
+abbrev pub NoneAtDone : Status → History → Type 0
+NoneAtDone Done maybe = maybe ≡ []
+NoneAtDone Usage maybe = Unit {0}
+NoneAtDone AnchorCount maybe = Unit {0}
+NoneAtDone PlatformFault maybe = Unit {0}
+NoneAtDone SourceFault maybe = Unit {0}
+NoneAtDone SinkFault maybe = Unit {0}
+NoneAtDone Memory maybe = Unit {0}
+NoneAtDone End maybe = Unit {0}
 
 -- a line's reply was put, and its commit was made before
 pub record HasAcknowledged {D : Type 0} (outside : D → Outside) (crash_states : D → CrashStates) (came gone : SourceContent) (before after : SinkContent) (old new : D) (log next : Log) (lines rest : ScriptLines) (first last : Session) (reply : Reply) : Type 0 where
@@ -54,22 +66,34 @@ StopsBehind outside crash_states came gone before after old new log lines rest f
 pub record ServedAll {D : Type 0} (outside : D → Outside) (crash_states : D → CrashStates) (came gone : SourceContent) (before after : SinkContent) (store : Store) (old new : D) (count : ℕ) (status : Status) : Type 0 where
   pub served : Served came gone before after status
   pub maybe : History
+  pub none_at_done : NoneAtDone status maybe
   pub next : IsOfNextLine served.conversation.state served.conversation.unanswered (count + length (commits_of count served.conversation.answers)) maybe
   pub remembered : IsTrue (outside old).tells → Remembers outside crash_states store old new (commits_of count served.conversation.answers) maybe
 
--- What a new store begins with: its opening commit, behind which the next line's may be, or nothing where no line was
--- answered, behind which the opening commit may be.
-abbrev pub Begins : {came gone : SourceContent} → Conversation came gone → History → History → Type 0
-Begins c begun maybe =
-    ((begun ≡ opening) × IsOfNextLine c.state c.unanswered (2 + length (commits_of 2 c.answers)) maybe)
-    ⊎ ((begun ≡ []) × (c.answers ≡ []) × ((maybe ≡ []) ⊎ (maybe ≡ opening)))
+-- how a run may end that didn't come to its script
+abbrev pub IsBeforeScript : Status → Type 0
+IsBeforeScript Done = ⊥
+IsBeforeScript Usage = Unit {0}
+IsBeforeScript AnchorCount = Unit {0}
+IsBeforeScript PlatformFault = Unit {0}
+IsBeforeScript SourceFault = ⊥
+IsBeforeScript SinkFault = Unit {0}
+IsBeforeScript Memory = Unit {0}
+IsBeforeScript End = ⊥
+
+-- What the commits of a new store begin with. It is the opening commit, and the next line's may then stand behind those of
+-- the answers. A run that didn't come to its script answered no line; its opening commit may have been made or not.
+abbrev pub Begins : {came gone : SourceContent} → Conversation came gone → Status → History → History → Type 0
+Begins c status begun maybe =
+    ((begun ≡ opening) × IsOfNextLine c.state c.unanswered (2 + length (commits_of 2 c.answers)) maybe × NoneAtDone status maybe)
+    ⊎ ((begun ≡ []) × (c.answers ≡ []) × IsBeforeScript status × ((maybe ≡ []) ⊎ (maybe ≡ opening)))
 
 -- the same of a new store, up to its last line
 pub record Started {D : Type 0} (outside : D → Outside) (crash_states : D → CrashStates) (came gone : SourceContent) (before after : SinkContent) (store : Store) (old new : D) (status : Status) : Type 0 where
   pub served : Served came gone before after status
   pub begun : History
   pub maybe : History
-  pub begins : Begins served.conversation begun maybe
+  pub begins : Begins served.conversation status begun maybe
   pub remembered : IsTrue (outside old).tells → RunRemembers outside crash_states store old new (begun ++ commits_of 2 served.conversation.answers) maybe
 
 -- the same of a run
@@ -77,5 +101,5 @@ pub record Acknowledged {D : Type 0} (outside : D → Outside) (crash_states : D
   pub replies : Replies came gone before after status
   pub begun : History
   pub maybe : History
-  pub begins : Begins replies.conversation begun maybe
+  pub begins : Begins replies.conversation status begun maybe
   pub remembered : IsTrue (outside old).tells → RunRemembers outside crash_states store old new (begun ++ commits_of 2 replies.conversation.answers) maybe

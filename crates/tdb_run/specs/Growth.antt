@@ -50,7 +50,8 @@ pub record Remembers {D : Type 0} (outside : D → Outside) (crash_states : D �
   pub left : (i : List ℕ) (a : Anchor) → now outside crash_states new i a → HasGrownBy store (outside old) (outside new) (AllAndMaybe surely maybe) a
   pub any_moment : LeavesOnly outside crash_states old new (λ i a. HasGrownBy store (outside old) (outside new) (FirstPartOf (surely ++ maybe)) a)
 
--- What a stop leaves of a run that asks for the anchor first, and until then does nothing.
+-- What a stop leaves of a run: up to a moment nothing that one could not leave before it, and from then on only a first
+-- part of these commits.
 pub record SettlesFor {D : Type 0} (outside : D → Outside) (crash_states : D → CrashStates) (store : Store) (old new : D) (surely maybe : History) : Type 0 where
   pub left : (i : List ℕ) (a : Anchor) → now outside crash_states new i a → HasGrownBy store (outside old) (outside new) (AllAndMaybe surely maybe) a
   pub any_moment : Settles outside crash_states old new (λ i a. HasGrownBy store (outside old) (outside new) (FirstPartOf (surely ++ maybe)) a)

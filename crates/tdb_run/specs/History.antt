@@ -1,5 +1,5 @@
 -- The history that a trace tells of an anchor: its commits, oldest first, each with its count and its changes.
-use Rattle.std.specs.Prelude.{◌≡◌, ◌⊎◌, ℕ, List, [], ◌∷◌, ◌++◌, Some}
+use Rattle.std.specs.Prelude.{◌≡◌, ◌⊎◌, ◌-◌, ◌/◌, ℕ, List, [], ◌∷◌, ◌++◌, Some, None}
 use Rattle.tdb_base.specs.declared.piece.Piece.{Piece}
 use Rattle.tdb_base.specs.declared.suite.Suite.{Suite}
 use Rattle.tdb_base.specs.declared.suite.Suite.TheVariants.{Plain}
@@ -16,7 +16,7 @@ use Rattle.tdb_model.specs.declared.change.Change.TheVariants.{Write, Free, Make
 use Rattle.tdb_model.specs.Apply.{History}
 use Rattle.tdb_model.specs.Opening.{opening_changes}
 use Rattle.tdb_node.specs.declared.table.Table.{Table}
-use Rattle.tdb_node.specs.SegmentTable.{IsTable, table_bytes}
+use Rattle.tdb_node.specs.SegmentTable.{IsTable, IsTableValue, IsUsed, table_bytes}
 use Rattle.tdb_platform.specs.Outside.{Anchor}
 use Rattle.tdb_seal.specs.SealedRecord.{IsSealedRecord}
 use Rattle.tdb_run.specs.Keys.{partition_key, system_key}
@@ -74,7 +74,12 @@ pub record HasTable (finds : Finds) (secret : List ℕ) (c : Commit) : Type 0 wh
   pub found : finds c.first sealed
   pub opened : IsSealedRecord (system_key secret) (record { kind = 4; suite = c.suite; home = 0; rank = 0 }) (table_bytes table) sealed
   pub is_table : IsTable table
+  pub value : IsTableValue table
   pub segments : table.segments ≡ c.segments
+  -- its own segment is used
+  pub used : IsUsed table (c.first.place.0 / 262144 - 1)
+  -- the first text of a store names no partition
+  pub root : c.count ≡ 1 → c.root ≡ None
 
 -- what a text adds: a checkpoint nothing, a commit its count and its changes
 abbrev pub Adds : Finds → List ℕ → Commit → History → Type 0

@@ -20,9 +20,9 @@ abbrev pub StandsAt : List WrittenPiece → ℕ → List ℕ → Type 0
 StandsAt [] place bytes = ⊥
 StandsAt (w ∷ later) place bytes = ((w.place ≡ place) × (w.bytes ≡ bytes) × AllByRecursion (IsClear place (length bytes)) later) ⊎ StandsAt later place bytes
 
--- The bytes that a piece stands for stand at its place, in the segments and before an end.
+-- The bytes that a piece stands for have its length and stand at its place, in the segments and before an end.
 abbrev pub standing_before : ℕ → List WrittenPiece → Finds
-standing_before end written piece bytes = in_trace written piece bytes × StandsAt written piece.place.0 bytes × (262144 ≤ piece.place.0) × (piece.place.0 + length bytes ≤ end)
+standing_before end written piece bytes = in_trace written piece bytes × StandsAt written piece.place.0 bytes × (262144 ≤ piece.place.0) × (piece.place.0 + length bytes ≤ end) × (piece.length ≡ length bytes)
 
 -- a text of 256 bytes that says this commit stands in the slot of its count
 abbrev pub TextStands : List WrittenPiece → (List ℕ → Option Commit) → Commit → Type 0

@@ -23,4 +23,4 @@ IsOneOf (p ∷ pieces) place bytes = ((p.place ≡ place) × (p.bytes ≡ bytes)
 
 -- records that are laid, and not yet written
 abbrev pub in_pieces : List Placed → Piece → List ℕ → Type 0
-in_pieces pieces piece bytes = (sha256 bytes ≡ piece.digest.0) × IsOneOf pieces piece.place.0 bytes
+in_pieces pieces piece bytes = (sha256 bytes ≡ piece.digest.0) × IsOneOf pieces piece.place.0 bytes × (piece.length ≡ length bytes)

@@ -12,6 +12,7 @@ pub returns-in_default-clause-remembered : goal.returns-in_default-clause-rememb
 returns-in_default-clause-remembered g c = record {
   served = served_none _ _ _ tt;
   maybe = [];
+  none_at_done = tt;
   next = inl refl;
   remembered = λ told. remembers_itself g.P.Platform.outside g.P.Platform.crash_states g.met.P.Platform.counts (store_of c.args.log.now) c.args.platform.now [] told c.requires.settled;
 }

@@ -101,6 +101,7 @@ returns-then-is_last-clause-remembered g c =
     record {
       served = served_bye _ (g.S.Source.content c.answering.source) _ before.source_tells _ (g.K.Sink.content c.answering.sink) before.sink_tells c.answering.lines c.answer_one.new.lines c.answering.session so_far.serving _ replied.given replied.next replied.put (replied.reply_is ∙ c.is_last.ensures.0 (search rules));
       maybe = [];
+      none_at_done = refl;
       next = inl refl;
       remembered = λ told. remembered told;
     }

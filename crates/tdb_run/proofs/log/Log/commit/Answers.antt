@@ -22,8 +22,9 @@ returns-clause-history g c tells changes are =
     let added : History = (n, changes) ∷ [] in
     let digest = ap (λ (k : Commit). k.first.digest.0) next ∙ ap (λ (p : Piece). p.digest.0) c.in_ok-first.ensures.piece in
     let at = ap (λ (k : Commit). k.first.place.0) next ∙ ap (λ (p : Piece). p.place.0) c.in_ok-first.ensures.piece in
+    let size = ap (λ (k : Commit). k.first.length) next ∙ ap (λ (p : Piece). p.length) c.in_ok-first.ensures.piece in
     let adds = list_adds secret n c.args.batch.tail.0 (placed c.args.batch.pieces.items) commit c.args.entries.now c.in_ok-list.list.items changes
-    (ap (λ (k : Commit). k.kind) next) (ap (λ (k : Commit). k.count) next) (ap (λ (k : Commit). k.suite) next) (sym digest) (sym at)
+    (ap (λ (k : Commit). k.kind) next) (ap (λ (k : Commit). k.count) next) (ap (λ (k : Commit). k.suite) next) (sym digest) (sym at) size
     c.in_ok-list.ensures.sealed c.requires.values c.requires.list are in
     c.put_batch.ensures.history tells (inl (c.requires.at_head tells)) added
     (subst (λ (ps : List Placed). Adds (in_pieces ps) secret commit added) (sym c.in_ok-first.ensures.pieces) adds)
@@ -43,8 +44,9 @@ returns-clause-stands g c tells changes are =
     let added : History = (n, changes) ∷ [] in
     let digest = ap (λ (k : Commit). k.first.digest.0) next ∙ ap (λ (p : Piece). p.digest.0) c.in_ok-first.ensures.piece in
     let at = ap (λ (k : Commit). k.first.place.0) next ∙ ap (λ (p : Piece). p.place.0) c.in_ok-first.ensures.piece in
+    let size = ap (λ (k : Commit). k.first.length) next ∙ ap (λ (p : Piece). p.length) c.in_ok-first.ensures.piece in
     let adds = list_adds secret n c.args.batch.tail.0 (placed c.args.batch.pieces.items) commit c.args.entries.now c.in_ok-list.list.items changes
-    (ap (λ (k : Commit). k.kind) next) (ap (λ (k : Commit). k.count) next) (ap (λ (k : Commit). k.suite) next) (sym digest) (sym at)
+    (ap (λ (k : Commit). k.kind) next) (ap (λ (k : Commit). k.count) next) (ap (λ (k : Commit). k.suite) next) (sym digest) (sym at) size
     c.in_ok-list.ensures.sealed c.requires.values c.requires.list are in
     c.put_batch.ensures.stands tells (inl (c.requires.at_head tells)) added
     (subst (λ (ps : List Placed). Adds (in_pieces ps) secret commit added) (sym c.in_ok-first.ensures.pieces) adds)

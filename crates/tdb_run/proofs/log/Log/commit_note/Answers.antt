@@ -31,7 +31,7 @@ returns-clause-history g c tells =
     let piece : Piece = c.in_ok-piece.piece in
     let changes : List Change = write_of_note c.args.note.now ∷ [] in
     let are = note_changes secret c.in_ok-batch.batch.tail.0 (placed c.in_ok-batch.batch.pieces.items) piece c.in_ok-chunk.chunk.items c.args.note.now
-    (sym (ap (λ (p : Piece). p.digest.0) c.in_ok-piece.ensures.piece)) (sym (ap (λ (p : Piece). p.place.0) c.in_ok-piece.ensures.piece)) c.in_ok-chunk.ensures.sealed in
+    (sym (ap (λ (p : Piece). p.digest.0) c.in_ok-piece.ensures.piece)) (sym (ap (λ (p : Piece). p.place.0) c.in_ok-piece.ensures.piece)) (ap (λ (p : Piece). p.length) c.in_ok-piece.ensures.piece) c.in_ok-chunk.ensures.sealed in
     let laid = subst (λ (ps : List Placed). AreChangesOf (in_pieces ps) secret (note_entry piece ∷ []) changes) (sym c.in_ok-piece.ensures.pieces) are in
     c.commit.ensures.history tells changes
     (subst (λ (e : Entry). AreChangesOf (in_pieces (placed c.lay.new.self.pieces.items)) secret (e ∷ []) changes) (sym c.write_note.ensures) laid)
@@ -52,7 +52,7 @@ returns-clause-stands g c tells =
     let piece : Piece = c.in_ok-piece.piece in
     let changes : List Change = write_of_note c.args.note.now ∷ [] in
     let are = note_changes secret c.in_ok-batch.batch.tail.0 (placed c.in_ok-batch.batch.pieces.items) piece c.in_ok-chunk.chunk.items c.args.note.now
-    (sym (ap (λ (p : Piece). p.digest.0) c.in_ok-piece.ensures.piece)) (sym (ap (λ (p : Piece). p.place.0) c.in_ok-piece.ensures.piece)) c.in_ok-chunk.ensures.sealed in
+    (sym (ap (λ (p : Piece). p.digest.0) c.in_ok-piece.ensures.piece)) (sym (ap (λ (p : Piece). p.place.0) c.in_ok-piece.ensures.piece)) (ap (λ (p : Piece). p.length) c.in_ok-piece.ensures.piece) c.in_ok-chunk.ensures.sealed in
     let laid = subst (λ (ps : List Placed). AreChangesOf (in_pieces ps) secret (note_entry piece ∷ []) changes) (sym c.in_ok-piece.ensures.pieces) are in
     c.commit.ensures.stands tells changes
     (subst (λ (e : Entry). AreChangesOf (in_pieces (placed c.lay.new.self.pieces.items)) secret (e ∷ []) changes) (sym c.write_note.ensures) laid)

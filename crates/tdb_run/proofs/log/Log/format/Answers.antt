@@ -1,14 +1,15 @@
-use Rattle.std.proofs.Common.{◌≡◌, inr, ℕ, List, [], refl, sym, ◌∙◌, ap, subst}
+use Rattle.std.proofs.Common.{arith, ◌/◌, ◌-◌, ◌≡◌, inr, ℕ, List, [], refl, sym, ◌∙◌, ap, subst}
 use Rattle.std.specs.Prelude.{OnOk}
 use Rattle.tdb_append.specs.Placed.{Placed, placed}
 use Rattle.tdb_base.specs.declared.piece.Piece.{Piece}
+use Rattle.tdb_base.specs.declared.piece.Place.{Place}
 use Rattle.tdb_mark.specs.declared.commit.Commit.{Commit}
 use Rattle.tdb_run.specs.Growth.{Added}
 use Rattle.tdb_run.specs.History.{Adds, Store}
 use Rattle.tdb_run.specs.LaidOut.{in_pieces}
 use Rattle.tdb_run.specs.Records.{first_table_of}
 use Rattle.tdb_run.proofs.Histories.{table_adds}
-use Rattle.tdb_run.proofs.Sealing.{only_first_is_table}
+use Rattle.tdb_run.proofs.Sealing.{first_is_used, only_first_is_table, only_first_is_value}
 use Rattle.tdb_run.proofs.Growing.{added_ok, added_err}
 use Rattle.tdb_run.specs.Intact.{KeepsIntact}
 use Rattle.tdb_run.proofs.Remembering.{none_added}
@@ -23,9 +24,11 @@ returns-clause-history g c tells =
     let next = c.next-commit.ensures in
     let digest = ap (λ (k : Commit). k.first.digest.0) next ∙ ap (λ (p : Piece). p.digest.0) c.in_ok-first.ensures.piece in
     let at = ap (λ (k : Commit). k.first.place.0) next ∙ ap (λ (p : Piece). p.place.0) c.in_ok-first.ensures.piece in
+    let size = ap (λ (k : Commit). k.first.length) next ∙ ap (λ (p : Piece). p.length) c.in_ok-first.ensures.piece in
+    let first_place : commit.first.place.0 ≡ 262144 = at ∙ ap (λ (p : Place). p.0) c.in_ok-batch.ensures.0 in
     let adds = table_adds c.new.result c.in_ok-batch.batch.tail.0 (placed c.in_ok-batch.batch.pieces.items) commit (first_table_of c.args.segments) c.in_ok-table.table.items
-    (ap (λ (k : Commit). k.kind) next) (ap (λ (k : Commit). k.suite) next) (sym digest) (sym at) c.in_ok-table.ensures.sealed (only_first_is_table c.args.segments c.requires.least c.requires.most)
-    (sym (ap (λ (k : Commit). k.segments) next)) in
+    (ap (λ (k : Commit). k.kind) next) (ap (λ (k : Commit). k.suite) next) (sym digest) (sym at) size c.in_ok-table.ensures.sealed (only_first_is_table c.args.segments c.requires.least c.requires.most) (only_first_is_value c.args.segments)
+    (sym (ap (λ (k : Commit). k.segments) next)) (first_is_used c.args.segments (commit.first.place.0 / 262144 - 1) (omega (arith, first_place))) (ap (λ (k : Commit). k.root) next) in
     let a : Added g.P.Platform.outside g.P.Platform.crash_states (record { secret = c.new.result; segments = c.args.segments }) old new [] c.put_batch.result =
     c.put_batch.ensures.history tells (inr refl) [] (subst (λ (ps : List Placed). Adds (in_pieces ps) c.new.result commit []) (sym c.in_ok-first.ensures.pieces) adds) in
     let store : Store = record { secret = c.args.secret.now; segments = c.args.segments } in
@@ -41,9 +44,11 @@ returns-in_err-put_batch-clause-history g c tells =
     let next = c.next-commit.ensures in
     let digest = ap (λ (k : Commit). k.first.digest.0) next ∙ ap (λ (p : Piece). p.digest.0) c.in_ok-first.ensures.piece in
     let at = ap (λ (k : Commit). k.first.place.0) next ∙ ap (λ (p : Piece). p.place.0) c.in_ok-first.ensures.piece in
+    let size = ap (λ (k : Commit). k.first.length) next ∙ ap (λ (p : Piece). p.length) c.in_ok-first.ensures.piece in
+    let first_place : commit.first.place.0 ≡ 262144 = at ∙ ap (λ (p : Place). p.0) c.in_ok-batch.ensures.0 in
     let adds = table_adds c.new.result c.in_ok-batch.batch.tail.0 (placed c.in_ok-batch.batch.pieces.items) commit (first_table_of c.args.segments) c.in_ok-table.table.items
-    (ap (λ (k : Commit). k.kind) next) (ap (λ (k : Commit). k.suite) next) (sym digest) (sym at) c.in_ok-table.ensures.sealed (only_first_is_table c.args.segments c.requires.least c.requires.most)
-    (sym (ap (λ (k : Commit). k.segments) next)) in
+    (ap (λ (k : Commit). k.kind) next) (ap (λ (k : Commit). k.suite) next) (sym digest) (sym at) size c.in_ok-table.ensures.sealed (only_first_is_table c.args.segments c.requires.least c.requires.most) (only_first_is_value c.args.segments)
+    (sym (ap (λ (k : Commit). k.segments) next)) (first_is_used c.args.segments (commit.first.place.0 / 262144 - 1) (omega (arith, first_place))) (ap (λ (k : Commit). k.root) next) in
     let a : Added g.P.Platform.outside g.P.Platform.crash_states (record { secret = c.new.result; segments = c.args.segments }) old new [] c.put_batch.result =
     c.put_batch.ensures.history tells (inr refl) [] (subst (λ (ps : List Placed). Adds (in_pieces ps) c.new.result commit []) (sym c.in_ok-first.ensures.pieces) adds) in
     let store : Store = record { secret = c.args.secret.now; segments = c.args.segments } in
@@ -68,9 +73,11 @@ returns-clause-stands g c tells =
     let next = c.next-commit.ensures in
     let digest = ap (λ (k : Commit). k.first.digest.0) next ∙ ap (λ (p : Piece). p.digest.0) c.in_ok-first.ensures.piece in
     let at = ap (λ (k : Commit). k.first.place.0) next ∙ ap (λ (p : Piece). p.place.0) c.in_ok-first.ensures.piece in
+    let size = ap (λ (k : Commit). k.first.length) next ∙ ap (λ (p : Piece). p.length) c.in_ok-first.ensures.piece in
+    let first_place : commit.first.place.0 ≡ 262144 = at ∙ ap (λ (p : Place). p.0) c.in_ok-batch.ensures.0 in
     let adds = table_adds c.new.result c.in_ok-batch.batch.tail.0 (placed c.in_ok-batch.batch.pieces.items) commit (first_table_of c.args.segments) c.in_ok-table.table.items
-    (ap (λ (k : Commit). k.kind) next) (ap (λ (k : Commit). k.suite) next) (sym digest) (sym at) c.in_ok-table.ensures.sealed (only_first_is_table c.args.segments c.requires.least c.requires.most)
-    (sym (ap (λ (k : Commit). k.segments) next)) in
+    (ap (λ (k : Commit). k.kind) next) (ap (λ (k : Commit). k.suite) next) (sym digest) (sym at) size c.in_ok-table.ensures.sealed (only_first_is_table c.args.segments c.requires.least c.requires.most) (only_first_is_value c.args.segments)
+    (sym (ap (λ (k : Commit). k.segments) next)) (first_is_used c.args.segments (commit.first.place.0 / 262144 - 1) (omega (arith, first_place))) (ap (λ (k : Commit). k.root) next) in
     let k : KeepsIntact (record { secret = c.new.result; segments = c.args.segments }) 262144 old new (λ end. OnOk c.put_batch.result (c.put_batch.new.self.tail.0 ≡ end)) =
     c.put_batch.ensures.stands tells (inr refl) [] (subst (λ (ps : List Placed). Adds (in_pieces ps) c.new.result commit []) (sym c.in_ok-first.ensures.pieces) adds) in
     let kept : KeepsIntact (record { secret = c.args.secret.now; segments = c.args.segments }) 262144 old new (λ end. OnOk c.put_batch.result (c.put_batch.new.self.tail.0 ≡ end)) =
@@ -85,9 +92,11 @@ returns-in_err-put_batch-clause-stands g c tells =
     let next = c.next-commit.ensures in
     let digest = ap (λ (k : Commit). k.first.digest.0) next ∙ ap (λ (p : Piece). p.digest.0) c.in_ok-first.ensures.piece in
     let at = ap (λ (k : Commit). k.first.place.0) next ∙ ap (λ (p : Piece). p.place.0) c.in_ok-first.ensures.piece in
+    let size = ap (λ (k : Commit). k.first.length) next ∙ ap (λ (p : Piece). p.length) c.in_ok-first.ensures.piece in
+    let first_place : commit.first.place.0 ≡ 262144 = at ∙ ap (λ (p : Place). p.0) c.in_ok-batch.ensures.0 in
     let adds = table_adds c.new.result c.in_ok-batch.batch.tail.0 (placed c.in_ok-batch.batch.pieces.items) commit (first_table_of c.args.segments) c.in_ok-table.table.items
-    (ap (λ (k : Commit). k.kind) next) (ap (λ (k : Commit). k.suite) next) (sym digest) (sym at) c.in_ok-table.ensures.sealed (only_first_is_table c.args.segments c.requires.least c.requires.most)
-    (sym (ap (λ (k : Commit). k.segments) next)) in
+    (ap (λ (k : Commit). k.kind) next) (ap (λ (k : Commit). k.suite) next) (sym digest) (sym at) size c.in_ok-table.ensures.sealed (only_first_is_table c.args.segments c.requires.least c.requires.most) (only_first_is_value c.args.segments)
+    (sym (ap (λ (k : Commit). k.segments) next)) (first_is_used c.args.segments (commit.first.place.0 / 262144 - 1) (omega (arith, first_place))) (ap (λ (k : Commit). k.root) next) in
     let k : KeepsIntact (record { secret = c.new.result; segments = c.args.segments }) 262144 old new (λ end. OnOk c.put_batch.result (c.put_batch.new.self.tail.0 ≡ end)) =
     c.put_batch.ensures.stands tells (inr refl) [] (subst (λ (ps : List Placed). Adds (in_pieces ps) c.new.result commit []) (sym c.in_ok-first.ensures.pieces) adds) in
     let kept : KeepsIntact (record { secret = c.args.secret.now; segments = c.args.segments }) 262144 old new (λ end. OnOk c.put_batch.result (c.put_batch.new.self.tail.0 ≡ end)) =
