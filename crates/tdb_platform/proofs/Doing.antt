@@ -5,13 +5,14 @@ use Rattle.std.specs.Prelude.{Result, Ok, Err, OnOk, OnErr}
 use Rattle.tdb_base.specs.Trace.{no_trace}
 use Rattle.tdb_platform.specs.declared.device.Device.{Device}
 use Rattle.tdb_platform.specs.declared.call.Entry.{Entry}
-use Rattle.tdb_platform.specs.Outside.{Rose}
+use Rattle.tdb_platform.specs.Outside.{Anchor, Rose}
 use Rattle.tdb_platform.specs.CrashStates.{Elapses}
+use Rattle.tdb_platform.specs.Image.{overwritten}
 use Rattle.tdb_platform.specs.Logs.{calls_of, logged_of}
 use Rattle.tdb_platform.specs.DeviceLaws.{stand_is}
-use Rattle.tdb_platform.specs.Device.{Did, log_of, stand, outside_of, crash_states_of}
-use Rattle.tdb_platform.specs.Replay.{Event, Fails, Stand, stand_after, pairs_after, Logged, stand_of, trace_of, most_short, Log, clock_of, LeftSince, added, missed}
-use Rattle.tdb_platform.proofs.Logging.{stand_of-push, trace_of-push, most_short-push, now_added, now_missed, elapses_added, elapses_missed}
+use Rattle.tdb_platform.specs.Device.{Did, Replaced, Stopped, log_of, stand, outside_of, crash_states_of}
+use Rattle.tdb_platform.specs.Replay.{Event, Fails, Replaces, Stops, Stand, stand_after, pairs_after, Logged, stand_of, trace_of, most_short, Log, clock_of, LeftSince, added, missed}
+use Rattle.tdb_platform.proofs.Logging.{stand_of-push, trace_of-push, most_short-push, now_added, now_missed, elapses_added, elapses_missed, replaced_each}
 
 -- the entries with one more
 pub calls_of-push : (entries : List Entry) (e : Entry) → calls_of (entries ++ e ∷ []) ≡ calls_of entries ++ logged_of e ∷ []
@@ -73,3 +74,65 @@ log_missed old entries short is short_is =
 pub either_way : {T E : Type 0} (r : Result T E) (P : Type 0) → OnOk r P → OnErr r P → P
 either_way (Ok x) P ok err = ok
 either_way (Err x) P ok err = err
+
+on_ok_of_both : {T E : Type 0} (r : Result T E) (P Q R : Type 0) → (P → Q → R) → OnOk r P → OnOk r Q → OnOk r R
+on_ok_of_both (Ok x) P Q R f p q = f p q
+on_ok_of_both (Err x) P Q R f p q = tt
+
+-- ---- bytes that the device's holder puts in place of others
+
+-- what a device keeps of these entries and this image, where its anchor stays
+pub record Stands (old : Device) (entries : List Entry) (image : List ℕ) : Type 0 where
+  pub image_is : image ≡ (stand_of (log_of old).start (calls_of entries)).0
+  pub anchor_is : (stand old).1 ≡ (stand_of (log_of old).start (calls_of entries)).1
+  pub shorts_are : most_short (calls_of entries) ≤ old.short
+
+replaced : (old new : Device) (at : ℕ) (bytes : List ℕ) → log_of new ≡ added (log_of old) (Replaces at bytes) → new.image.items ≡ overwritten old.image.items at bytes
+    → (new.count, new.mark) ≡ (stand old).1 → Replaced old new at bytes
+replaced old new at bytes is image anchor = record {
+  did = did_added old new (Replaces at bytes) is image anchor;
+  clock = ap clock_of is ∙ omega (arith, length-append (log_of old).calls (record { event = Replaces at bytes; short = old.short } ∷ []));
+  each = λ i a left.
+      subst (λ (l : Log). LeftSince l (clock_of l) (overwritten i at bytes) a) (sym is)
+      (replaced_each (log_of old) at bytes old.shorts_are i a left);
+}
+
+module _ (old : Device) (at : ℕ) (bytes : List ℕ) (entries : List Entry) (image : List ℕ) where
+  abbrev pub Entered : Type 0
+  Entered = calls_of entries ≡ (log_of old).calls ++ record { event = Replaces at bytes; short = old.short } ∷ []
+
+  pub stands_replaced : {T E : Type 0} (r : Result T E) → OnOk r Entered → OnOk r (image ≡ overwritten old.image.items at bytes)
+      → OnErr r (entries ≡ old.entries.items) → OnErr r (image ≡ old.image.items) → Stands old entries image
+  stands_replaced (Ok x) entered put same same_image =
+      let next = stands_on old (calls_of entries) (Replaces at bytes) entered in
+      record {
+        image_is = put ∙ ap (λ (s : Stand). s.0) next;
+        anchor_is = ap (λ (s : Stand). s.1) next;
+        shorts_are = shorts_on old (calls_of entries) (Replaces at bytes) entered;
+      }
+  stands_replaced (Err x) entered put same same_image = record {
+    image_is = same_image ∙ subst (λ (es : List Entry). old.image.items ≡ (stand_of (log_of old).start (calls_of es)).0) (sym same) (ap (λ (s : Stand). s.0) (stand_is old));
+    anchor_is = subst (λ (es : List Entry). (stand old).1 ≡ (stand_of (log_of old).start (calls_of es)).1) (sym same) (ap (λ (s : Stand). s.1) (stand_is old));
+    shorts_are = subst (λ (es : List Entry). most_short (calls_of es) ≤ old.short) (sym same) old.shorts_are;
+  }
+
+  pub did_replaced : {T E : Type 0} (r : Result T E) (new : Device) → log_of new ≡ record { start = (log_of old).start; calls = calls_of entries; short = old.short } → new.image.items ≡ image
+      → (new.count, new.mark) ≡ (stand old).1 → OnOk r Entered → OnOk r (image ≡ overwritten old.image.items at bytes) → OnOk r (Replaced old new at bytes)
+  did_replaced r new log image_is anchor entered_ok put_ok =
+      on_ok_of_both r Entered (image ≡ overwritten old.image.items at bytes) (Replaced old new at bytes)
+      (λ entered put. replaced old new at bytes (log ∙ log_added old (calls_of entries) (Replaces at bytes) entered) (image_is ∙ put) anchor) entered_ok put_ok
+
+-- ---- a stop
+
+module _ (old new : Device) (image : List ℕ) (anchor : Anchor)
+    (entered : calls_of new.entries.items ≡ (log_of old).calls ++ record { event = Stops image anchor; short = old.short } ∷ []) where
+  pub did_stopped : (left : Stand) → log_of new ≡ record { start = (log_of old).start; calls = calls_of new.entries.items; short = old.short } → new.image.items ≡ image
+      → (new.count, new.mark) ≡ anchor → (image, anchor) ≡ left → Stopped old new left
+  did_stopped left log image_is anchor_is is =
+      let added_is = log ∙ log_added old (calls_of new.entries.items) (Stops image anchor) entered in
+      let stopped : Stopped old new (image, anchor) = record {
+        did = did_added old new (Stops image anchor) added_is image_is anchor_is;
+        clock = ap clock_of added_is ∙ omega (arith, length-append (log_of old).calls (record { event = Stops image anchor; short = old.short } ∷ []));
+        short = ap (λ (l : Log). l.short) log;
+      } in
+      subst (Stopped old new) is stopped

@@ -4,8 +4,9 @@ use Rattle.std.proofs.lemmas.List.{take_all, take-append-le, length-append}
 use Rattle.std.proofs.lemmas.Bool.{cases_lt}
 use Rattle.tdb_base.specs.Trace.{Trace}
 use Rattle.tdb_platform.specs.Outside.{Outside, Anchor}
+use Rattle.tdb_platform.specs.Image.{overwritten}
 use Rattle.tdb_platform.specs.CrashStates.{Pairs, Elapses}
-use Rattle.tdb_platform.specs.Replay.{Event, Reads, Writes, Syncs, Asks, Advances, Fails, Replaces, Stand, stand_after, trace_after, pairs_after, Logged, stand_of, trace_of, pairs_of, at_first, short_after, most_short, Log, clock_of, LeftSince, added, missed}
+use Rattle.tdb_platform.specs.Replay.{Event, Reads, Writes, Syncs, Asks, Advances, Fails, Replaces, Stops, Stand, stand_after, trace_after, pairs_after, Logged, stand_of, trace_of, pairs_of, at_first, short_after, most_short, Log, clock_of, LeftSince, added, missed}
 use Rattle.tdb_platform.specs.ReplayLaws.{left_now}
 
 pub stand_of-push : (cs : List Logged) (c : Logged) (s : Stand) → stand_of s (cs ++ c ∷ []) ≡ stand_after (stand_of s cs) c.event
@@ -28,6 +29,7 @@ pairs_after_more Asks s P Q more i a left = (more i a left.0, left.1)
 pairs_after_more (Advances count mark failed) s P Q more i a left = (left.0, more i left.0 left.1, left.2, left.3)
 pairs_after_more Fails s P Q more i a left = more i a left
 pairs_after_more (Replaces at bytes) s P Q more i a left = (left.0, more left.0 a left.1, left.2)
+pairs_after_more (Stops image anchor) s P Q more i a left = left
 
 -- ---- the calls that found no memory
 
@@ -126,3 +128,10 @@ module _ (l : Log) (short : l.short ≤ 18446744073709551615) (o n : Outside) (b
 
 pub now_missed : (l : Log) → most_short l.calls ≤ l.short → l.short ≤ 18446744073709551615 → (i : List ℕ) (a : Anchor) → LeftSince (missed l) (clock_of (missed l)) i a → LeftSince l (clock_of l) i a
 now_missed l most short i a s = left_now l i a (only_now (missed l) (omega (arith, most, short)) i a s)
+
+-- the images as they were, with these bytes in each
+pub replaced_each : (l : Log) (at : ℕ) (bytes : List ℕ) → most_short l.calls ≤ l.short → (i : List ℕ) (a : Anchor) → LeftSince l (clock_of l) i a
+    → LeftSince (added l (Replaces at bytes)) (clock_of (added l (Replaces at bytes))) (overwritten i at bytes) a
+replaced_each l at bytes most i a left =
+    left_now (added l (Replaces at bytes)) (overwritten i at bytes) a
+    (subst (λ (p : Pairs). p (overwritten i at bytes) a) (sym (pairs_of-push l.calls (record { event = Replaces at bytes; short = l.short }) l.start (at_first l.start))) (i, only_now l most i a left, refl))

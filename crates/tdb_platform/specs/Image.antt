@@ -5,6 +5,10 @@ use Rattle.std.specs.Prelude.{◌≡◌, ◌⊎◌, ℕ, ◌+◌, ◌-◌, ◌<�
 abbrev pub overwritten : List ℕ → ℕ → List ℕ → List ℕ
 overwritten image at piece = take at image ++ replicate (at - length image) 0 ++ piece ++ drop (at + length piece) image
 
+-- the same, with another byte all over the gap
+abbrev pub written_over : ℕ → List ℕ → ℕ → List ℕ → List ℕ
+written_over gap image at piece = take at image ++ replicate (at - length image) gap ++ piece ++ drop (at + length piece) image
+
 -- the piece stands in the image at this place
 pub record Holds (image : List ℕ) (at : ℕ) (piece : List ℕ) : Type 0 where
   pub within : at + length piece ≤ length image

@@ -1,8 +1,12 @@
 pub mod CrashStates
 pub mod Device
 pub mod DeviceLaws
+pub mod Hostile
 pub mod Image
 pub mod ImageLaws
+pub mod Left
+pub mod LeftAnchor
+pub mod LeftImage
 pub mod Logs
 pub mod Memory
 pub mod Outside

@@ -16,6 +16,8 @@ pub data Event : Type 0 where
   Fails : Event
   -- bytes that the device's holder put there
   Replaces : (at : ℕ) (bytes : List ℕ) → Event
+  -- a stop that left this image and this anchor
+  Stops : (image : List ℕ) (anchor : Anchor) → Event
 
 -- the device's bytes, and the anchor
 abbrev pub Stand : Type 0
@@ -25,6 +27,7 @@ abbrev pub stand_after : Stand → Event → Stand
 stand_after s (Writes at piece failed) = ((if failed then s.0 else overwritten s.0 at piece), s.1)
 stand_after s (Advances count mark failed) = (s.0, (if failed then s.1 else (count, mark)))
 stand_after s (Replaces at bytes) = (overwritten s.0 at bytes, s.1)
+stand_after s (Stops image anchor) = (image, anchor)
 stand_after s (Reads at asked bytes) = s
 stand_after s Syncs = s
 stand_after s Asks = s
@@ -38,6 +41,7 @@ trace_after t Asks = t
 trace_after t (Advances count mark failed) = t
 trace_after t Fails = t
 trace_after t (Replaces at bytes) = t
+trace_after t (Stops image anchor) = t
 
 -- what a stop right after a call may leave, from what one right before it might have left
 abbrev pub pairs_after : Stand → Pairs → Event → Pairs
@@ -49,6 +53,7 @@ pairs_after s before (Advances count mark failed) i a =
 pairs_after s before (Reads at asked bytes) i a = before i a
 pairs_after s before Fails i a = before i a
 pairs_after s before (Replaces at bytes) i a = (was : List ℕ) × before was a × (i ≡ overwritten was at bytes)
+pairs_after s before (Stops image anchor) i a = (i ≡ image) × (a ≡ anchor)
 
 -- a call of the log, and how many calls had found no memory before it, which the log hasn't
 pub record Logged : Type 0 where

@@ -6,7 +6,7 @@ use Rattle.tdb_base.proofs.Tracing.{numbered_written, numbered_read}
 use Rattle.tdb_platform.specs.Outside.{Anchor}
 use Rattle.tdb_platform.specs.ImageLaws.{overwritten_same, same_itself}
 use Rattle.tdb_platform.specs.CrashStates.{Pairs}
-use Rattle.tdb_platform.specs.Replay.{Event, Reads, Writes, Syncs, Asks, Advances, Fails, Replaces, Stand, stand_after, trace_after, pairs_after, Logged, stand_of, trace_of, pairs_of, at_first, short_after, Log, clock_of, LeftSince}
+use Rattle.tdb_platform.specs.Replay.{Event, Reads, Writes, Syncs, Asks, Advances, Fails, Replaces, Stops, Stand, stand_after, trace_after, pairs_after, Logged, stand_of, trace_of, pairs_of, at_first, short_after, Log, clock_of, LeftSince}
 
 pub left_earlier : (l : Log) (t u : ℕ) (i : List ℕ) (a : Anchor) → t ≤ u → LeftSince l u i a → LeftSince l t i a
 left_earlier l t u i a le s = record { made = s.made; within = s.within; reaches = omega (arith, le, s.reaches); left = s.left }
@@ -22,6 +22,7 @@ one_call (Advances count mark false) s before here = (s.1, here, inr refl, λ is
 one_call (Advances count mark true) s before here = (s.1, here, inl refl, λ is. absurd (cc is))
 one_call Fails s before here = here
 one_call (Replaces at bytes) s before here = (s.0, here, refl)
+one_call (Stops image anchor) s before here = (refl, refl)
 
 all_calls : (cs : List Logged) (s : Stand) (before : Pairs) → before s.0 s.1 → pairs_of s before cs (stand_of s cs).0 (stand_of s cs).1
 all_calls [] s before here = here
@@ -52,6 +53,7 @@ numbered_one Asks t h = h
 numbered_one (Advances count mark failed) t h = h
 numbered_one Fails t h = h
 numbered_one (Replaces at bytes) t h = h
+numbered_one (Stops image anchor) t h = h
 
 numbered_all : (cs : List Logged) (t : Trace) → IsNumbered t → IsNumbered (trace_of t cs)
 numbered_all [] t h = h

@@ -1,4 +1,6 @@
 // The calls that a device in memory has had.
+ghost use Rattle.std.specs.Prelude.{◌≡◌};
+ghost use Rattle.tdb_platform.specs.Logs.{gave};
 
 /// A call, with what it was handed and what it gave.
 #[derive(Drop)]
@@ -27,6 +29,26 @@ pub enum Call {
     },
     /// A read, a sync or a look at the anchor that failed.
     Failed,
+    /// No call: bytes that the device's holder put at a place.
+    Replace {
+        at: u64,
+        bytes: Vec<u8>,
+    },
+    /// No call: a stop that left this image and this anchor.
+    Stop {
+        image: Vec<u8>,
+        count: u64,
+        mark: [u8; 32],
+    },
+}
+
+impl Call {
+    /// Whether the call is a read that gave a piece.
+    pub fn gave(&self) -> bool
+        ensures { result ≡ gave self.now }
+    {
+        matches!(self, Call::Read { .. })
+    }
 }
 
 /// A call of the log, and how many calls had found no memory before it.

@@ -5,13 +5,19 @@
 #![tactic(auto)]
 
 mod call;
+mod crash;
 mod device;
+mod hostile;
+mod image;
 mod memory;
 mod plan;
 mod platform;
+mod replay;
 #[cfg(test)]
 mod tests;
 
+pub use crash::{AnchorLeft, Crash, ImageLeft};
+pub use hostile::{Answer, HostilePlatform};
 pub use memory::MemoryPlatform;
 pub use platform::Platform;
 pub use tdb_base::{DEVICE_LIMIT, Failed};

@@ -1,5 +1,5 @@
 // A platform in memory: honest, and with a record of all its calls.
-ghost use Rattle.std.specs.Prelude.{◌≡◌, ◌⊎◌, ◌↔◌, ◌+◌, ◌<◌, ◌≤◌, true, IfOk, OnOk, OnErr, IsTrue, List, ℕ, length, take, drop};
+ghost use Rattle.std.specs.Prelude.{◌≡◌, ◌⊎◌, ◌↔◌, ◌+◌, ◌<◌, ◌≤◌, [], true, IfOk, OnOk, OnErr, IsTrue, List, ℕ, length, take, drop};
 ghost use Rattle.tdb_base.specs.declared.piece.TheConstants.{DEVICE_LIMIT};
 ghost use Rattle.tdb_base.specs.Trace.{no_trace, with_read, with_written};
 ghost use Rattle.tdb_platform.specs.Outside.{Anchor, Told};
@@ -9,6 +9,7 @@ ghost use Rattle.tdb_platform.specs.ReplayLaws.{left_earlier, numbered_log};
 ghost use Rattle.tdb_platform.specs.DeviceLaws.{device_as_it_reads};
 
 use crate::call::Call;
+use crate::crash::Crash;
 use crate::device::Device;
 use crate::plan::Plan;
 use crate::{Failed, Platform};
@@ -25,7 +26,8 @@ pub struct MemoryPlatform {
 }
 
 impl MemoryPlatform {
-    ghost use Rattle.tdb_platform.specs.Memory.{calls_made, calls_short, crash_states, failing_calls, failing_from, outside};
+    ghost use Rattle.tdb_platform.specs.Memory.{FailsAsPlanned, SamePlan, calls_made, calls_short, crash_states, failing_calls, failing_from, log, outside};
+    ghost use Rattle.tdb_platform.specs.Left.{left_by};
 
     /// A device with these bytes, and an anchor of a count and a mark. Its calls are numbered from 1: a call whose
     /// number stands in `fail` fails, and from number `stop` on every call fails.
@@ -67,6 +69,78 @@ impl MemoryPlatform {
         ensures { result ≡ calls_short self.now }
     {
         self.device.short()
+    }
+
+    /// How many reads gave a piece.
+    pub fn reads(&self) -> u64
+        ensures { result ≡ length (outside self.now).trace.read }
+    {
+        self.device.reads()
+    }
+
+    /// Reads as a device does that shows these bytes, cut to the length of `into`, in place of its own.
+    pub(crate) fn show(&mut self, at: u64, into: &mut [u8], shown: &[u8]) -> Result<usize, Failed>
+        ensures count { IfOk result (λ n. n ≤ length into.old) }
+        ensures rest { IfOk result (λ n. drop n into.new ≡ drop n into.old) }
+        ensures piece { IfOk result (λ n. take n into.new ≡ take (length into.old) shown.now) }
+        ensures trace { IfOk result (λ n. (outside self.new).trace ≡ with_read (outside self.old).trace at (length into.old) (take n into.new)) }
+        ensures trace_err { OnErr result ((outside self.new).trace ≡ (outside self.old).trace) }
+        ensures image { (outside self.new).image ≡ (outside self.old).image }
+        ensures anchor { (outside self.new).anchor ≡ (outside self.old).anchor }
+        ensures now { LeavesNoMore outside crash_states self.old self.new }
+        ensures time { Elapses (outside self.old) (outside self.new) (crash_states self.old) (crash_states self.new) }
+        ensures told { Told (outside self.old) (outside self.new) result }
+        ensures into_err { OnErr result (into.new ≡ into.old) }
+        ensures planned { FailsAsPlanned self.old self.new result }
+    {
+        if self.plan.next() {
+            let _ = self.device.note(Call::Failed);
+            self.faults = self.faults.saturating_add(1);
+            return Err(Failed);
+        }
+        let Ok(count) = self.device.show(at, into, shown) else {
+            self.faults = self.faults.saturating_add(1);
+            return Err(Failed);
+        };
+        Ok(count)
+    }
+
+    /// The device's holder puts bytes at a place. Past the device's end the gap is filled with zero bytes.
+    ///
+    /// It is no call, and nothing of it counts as written: a stop leaves the images that it left before, with these
+    /// bytes in each. Without memory nothing changes.
+    pub fn replace(&mut self, at: u64, bytes: &[u8]) -> Result<(), AllocError>
+        requires { at + length bytes.now ≤ DEVICE_LIMIT }
+        ensures told { OnOk result (outside self.new ≡ record (outside self.old) { image = overwritten (outside self.old).image at bytes.now; clock = (outside self.old).clock + 1 }) }
+        ensures now { OnOk result ((i : List ℕ) (a : Anchor) → crash_states self.new (outside self.new).clock i a
+            ↔ ((was : List ℕ) × crash_states self.old (outside self.old).clock was a × (i ≡ overwritten was at bytes.now))) }
+        ensures time { Elapses (outside self.old) (outside self.new) (crash_states self.old) (crash_states self.new) }
+        ensures plan { SamePlan self.old self.new }
+        ensures told_err { OnErr result (outside self.new ≡ outside self.old) }
+        ensures left_err { OnErr result ((t : ℕ) (i : List ℕ) (a : Anchor) → crash_states self.new t i a ↔ crash_states self.old t i a) }
+    {
+        self.device.replace(at, bytes)?;
+        Ok(())
+    }
+
+    /// A stop. The image and the anchor that it leaves are what the calls give from then on. The trace and the counts
+    /// stay, and no call is meant to fail any more.
+    pub fn crash(self, crash: Crash) -> Result<MemoryPlatform, AllocError>
+        ensures told { IfOk result (λ p. outside p ≡ record (outside self) { image = (left_by crash (log self)).0; anchor = (left_by crash (log self)).1; clock = (outside self).clock + 1 }) }
+        ensures left { IfOk result (λ p. crash_states self (outside self).clock (outside p).image (outside p).anchor) }
+        ensures now { IfOk result (λ p. (i : List ℕ) (a : Anchor) → crash_states p (outside p).clock i a ↔ ((i ≡ (outside p).image) × (a ≡ (outside p).anchor))) }
+        ensures time { IfOk result (λ p. Elapses (outside self) (outside p) (crash_states self) (crash_states p)) }
+        ensures calls { IfOk result (λ p. (calls_made p ≡ calls_made self) × (calls_short p ≡ calls_short self)) }
+        ensures plan { IfOk result (λ p. (failing_calls p ≡ []) × (failing_from p ≡ None)) }
+    {
+        let device = self.device.crash(crash)?;
+        let mut plan = self.plan;
+        plan.lift();
+        Ok(MemoryPlatform {
+            device,
+            plan,
+            faults: self.faults,
+        })
     }
 }
 

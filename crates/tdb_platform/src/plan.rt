@@ -1,5 +1,5 @@
 // Which calls of a platform in memory are meant to fail.
-ghost use Rattle.std.specs.Prelude.{◌≡◌, ◌↔◌, ◌+◌, IsTrue, min};
+ghost use Rattle.std.specs.Prelude.{◌≡◌, ◌↔◌, ◌+◌, [], IsTrue, min};
 ghost use Rattle.tdb_platform.specs.Plan.{IsPlanned};
 
 /// Numbers the calls from 1. A call fails whose number stands in the list, and from the stop on every call.
@@ -26,5 +26,15 @@ impl Plan {
             }
         }
         self.fail.contains(&number)
+    }
+
+    /// No call is meant to fail any more.
+    pub fn lift(&mut self)
+        ensures fail { self.new.fail.items ≡ [] }
+        ensures stop { self.new.stop ≡ None }
+        ensures made { self.new.made ≡ self.old.made }
+    {
+        self.fail.clear();
+        self.stop = None;
     }
 }
