@@ -1,17 +1,20 @@
 //! The lines of a script.
 ghost use Rattle.std.specs.Prelude.{◌≡◌, ◌==◌, ◌≢◌, [], ◌∷◌, ◌++◌, ℕ, List, All, IfSome, IfNone, codes, decimal, position};
-ghost use Rattle.tdb_script.specs.LineSpelling.{LineValue, IsLine, IsTransaction};
+ghost use Rattle.tdb_script.specs.LineSpelling.{LineValue, IsLine, IsTransaction, IsObject};
 ghost use Rattle.tdb_script.specs.LineValue.{value_of_line};
 ghost use Rattle.tdb_script.specs.NoteText.{IsNoteText};
 
 use crate::note::is_note_text;
-use tdb_base::{TxId, read_decimal};
+use tdb_base::{Rank, TxId, read_decimal};
 
 /// The most bytes that a line has without its line feed.
 pub const MAX_LINE_LENGTH: usize = 4095;
 
 // The greatest number of a transaction.
 const MAX_TRANSACTION: u64 = 4_294_967_295;
+
+// The greatest number of an object.
+const MAX_OBJECT: u64 = 262_143;
 
 /// What a line of a script asks for. It borrows its texts from the line.
 #[derive(Clone, Copy, Debug, PartialEq, Eq)]
@@ -20,8 +23,12 @@ pub enum Line<'a> {
     Begin(TxId),
     /// `new T note TEXT` makes a note of that text in the transaction.
     New(TxId, &'a [u8]),
+    /// `get T ID` gives the object of that number, 0 to 262,143, to the transaction.
+    Get(TxId, Rank),
     /// `commit T` commits the transaction.
     Commit(TxId),
+    /// `abort T` gives up the transaction.
+    Abort(TxId),
     /// `quit` ends the script.
     Quit,
 }
@@ -46,6 +53,12 @@ pub fn read_line(bytes: &[u8]) -> Option<Line<'_>>
     }
     if let Some(transaction) = read_command(bytes, b"commit ") {
         return Some(Line::Commit(transaction));
+    }
+    if let Some(transaction) = read_command(bytes, b"abort ") {
+        return Some(Line::Abort(transaction));
+    }
+    if let Some((transaction, object)) = read_get(bytes) {
+        return Some(Line::Get(transaction, object));
     }
     let (transaction, text) = read_new(bytes)?;
     Some(Line::New(transaction, text))
@@ -76,6 +89,37 @@ fn read_transaction(word: &[u8]) -> Option<TxId>
     } else {
         None
     }
+}
+
+// The object whose number a word spells.
+fn read_object(word: &[u8]) -> Option<Rank>
+    ensures found { IfSome result
+        (λ object. IsObject object.0 × (word.now ≡ decimal object.0)) }
+    ensures none { IfNone result ((number : ℕ)
+        → IsObject number → word.now ≡ decimal number → ⊥) }
+{
+    let number = read_decimal(word)?;
+    if number <= MAX_OBJECT {
+        Some(Rank(number as u32))
+    } else {
+        None
+    }
+}
+
+// The transaction and the object of a line that gets one.
+fn read_get(bytes: &[u8]) -> Option<(TxId, Rank)>
+    ensures found { IfSome result
+        (λ line. IsTransaction line.0.0 × IsObject line.1.0
+        × (bytes.now ≡ codes "get " ++ decimal line.0.0 ++ codes " " ++ decimal line.1.0)) }
+    ensures none { IfNone result ((number object : ℕ)
+        → IsTransaction number → IsObject object
+        → bytes.now ≡ codes "get " ++ decimal number ++ codes " " ++ decimal object → ⊥) }
+{
+    let fields = bytes.strip_prefix(b"get ".as_slice())?;
+    let (number, word) = split_field(fields)?;
+    let transaction = read_transaction(number)?;
+    let object = read_object(word)?;
+    Some((transaction, object))
 }
 
 // The transaction and the text of a line that makes a note.
@@ -124,7 +168,7 @@ mod tests {
     #[test]
     fn a_line_is_read_exactly_in_the_grammar(rt: HostRuntime) {
         let greatest = TxId(4_294_967_295);
-        let table: [(&[u8], Option<Line<'_>>); 21] = [
+        let table: [(&[u8], Option<Line<'_>>); 25] = [
             (b"begin 1", Some(Line::Begin(TxId(1)))),
             (b"begin 4294967295", Some(Line::Begin(greatest))),
             (b"begin 4294967296", None),
@@ -143,9 +187,35 @@ mod tests {
             (b"new 1 note a\x7fb", None),
             (b"commit 1", Some(Line::Commit(TxId(1)))),
             (b"commit +1", None),
+            (b"abort 4294967295", Some(Line::Abort(greatest))),
+            (b"abort 0", None),
+            (b"abort 1 2", None),
+            (b"abort", None),
             (b"quit", Some(Line::Quit)),
             (b"quit ", None),
             (b"", None),
+        ];
+        for (bytes, expected) in table.iter() {
+            assert!(rt; read_line(bytes) == *expected, "{bytes:?}");
+        }
+    }
+
+    #[test]
+    fn a_line_that_gets_an_object_has_two_numbers(rt: HostRuntime) {
+        let greatest = Line::Get(TxId(4_294_967_295), Rank(262_143));
+        let table: [(&[u8], Option<Line<'_>>); 12] = [
+            (b"get 1 0", Some(Line::Get(TxId(1), Rank(0)))),
+            (b"get 4294967295 262143", Some(greatest)),
+            (b"get 1 262144", None),
+            (b"get 1 4294967296", None),
+            (b"get 0 1", None),
+            (b"get 1 01", None),
+            (b"get 1  1", None),
+            (b"get 1 ", None),
+            (b"get 1", None),
+            (b"get 1 2 3", None),
+            (b"get 1 2 ", None),
+            (b"gets 1 2", None),
         ];
         for (bytes, expected) in table.iter() {
             assert!(rt; read_line(bytes) == *expected, "{bytes:?}");

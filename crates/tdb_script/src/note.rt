@@ -1,10 +1,11 @@
 //! Notes, and the chunk that one is stored in.
-ghost use Rattle.std.specs.Prelude.{◌≡◌, ◌↔◌, IsTrue, IsSome, IfSome, IfOk};
-ghost use Rattle.tdb_script.specs.NoteText.{IsNoteText, stored_note_bytes};
+ghost use Rattle.std.specs.Prelude.{◌≡◌, ◌↔◌, ℕ, List, IsTrue, IsSome, IfSome, IfNone, IfOk};
+ghost use Rattle.tdb_script.specs.NoteText.{IsNoteText, IsStoredNote, stored_note_bytes};
 
 use std::alloc::{AllocError, Global};
+use std::fmt;
 use std::marker::Model;
-use tdb_base::{Bytes, push_bytes, push_u32};
+use tdb_base::{Bytes, push_bytes, push_u32, split_u32};
 
 /// The most bytes that the text of a note has.
 pub const MAX_NOTE_LENGTH: usize = 2000;
@@ -18,34 +19,43 @@ const NOTE_VERSION: u32 = 1;
 // The mask of an object that is in no collection.
 const NO_COLLECTION: u32 = 0;
 
+// A mask of collections is below this number. A chunk that begins otherwise holds no member.
+const MASK_LIMIT: u32 = 65_536;
+
+// The bytes of a chunk that stand before the text: mask, class, version and length.
+const NOTE_OVERHEAD: usize = 16;
+
 /// A note: a text of 1 to 2,000 printable ASCII characters, which contracts see as its bytes.
 #[derive(Debug, Drop)]
 pub struct Note {
-    text: Bytes,
+    text: String,
 }
 
 impl Model for Note {
-    ghost use Rattle.std.specs.Prelude.{ℕ, List};
+    ghost use Rattle.std.specs.Prelude.{ℕ, List, string_bytes};
     ghost use Rattle.tdb_script.specs.NoteText.{IsNoteText};
 
     ghost Value = { List ℕ };
 
-    ghost view = { λ note. note.text };
+    ghost view = { λ note. string_bytes note.text };
 
-    ghost invariant = { λ note. IsNoteText note.text };
+    ghost invariant = { λ note. IsNoteText (string_bytes note.text) };
 }
 
 impl Note {
     /// The note of a text, or `None` where the text is no note's.
+    #[tactic(auto, using(crate::proofs::NoteLaws::note_text_is_utf8))]
     pub fn new(text: Bytes) -> Option<Note>
         ensures text { IfSome result (λ note. note ≡ text) }
         ensures some { IsSome result ↔ IsNoteText text }
     {
-        if is_note_text(text.as_slice()) {
-            Some(Note { text })
-        } else {
-            None
+        if !is_note_text(text.as_slice()) {
+            return None;
         }
+        let Ok(text) = String::from_utf8(text.into_vec()) else {
+            return None;
+        };
+        Some(Note { text })
     }
 
     /// The text.
@@ -53,7 +63,18 @@ impl Note {
         ensures text { result.now ≡ self.now }
         ensures is_text { IsNoteText self.now }
     {
-        self.text.as_slice()
+        self.text.as_bytes()
+    }
+}
+
+/// A note shows as its text.
+impl fmt::Display for Note {
+    ghost use Rattle.std.specs.Prelude.{Some};
+
+    ghost output = { λ note. Some note };
+
+    fn fmt<W: fmt::Write>(&self, f: &mut fmt::Formatter<W>) -> fmt::Result {
+        f.write_str(self.text.as_str())
     }
 }
 
@@ -70,13 +91,41 @@ pub fn stored_note(alloc: Global, text: &[u8]) -> Result<Bytes, AllocError>
     requires { IsNoteText text.now }
     ensures { IfOk result (λ chunk. chunk ≡ stored_note_bytes text.now) }
 {
-    let mut chunk = Vec::with_capacity(alloc, 16 + text.len())?;
+    let mut chunk = Vec::with_capacity(alloc, NOTE_OVERHEAD + text.len())?;
     push_u32(&mut chunk, NO_COLLECTION)?;
     push_u32(&mut chunk, NOTE_CLASS)?;
     push_u32(&mut chunk, NOTE_VERSION)?;
     push_u32(&mut chunk, text.len() as u32)?;
     push_bytes(&mut chunk, text)?;
     Ok(Bytes::from(chunk))
+}
+
+/// The text of the note that a chunk holds, whatever collections the note is in, or `None` where
+/// the chunk holds no note. It takes no memory.
+pub fn read_stored_note(chunk: &[u8]) -> Option<&[u8]>
+    ensures found { IfSome result (λ text. (mask : ℕ) × IsStoredNote chunk.now mask text.now) }
+    ensures none { IfNone result ((mask : ℕ) (text : List ℕ) → IsStoredNote chunk.now mask text → ⊥) }
+    ensures unique { (mask other_mask : ℕ) (text other : List ℕ)
+        → IsStoredNote chunk.now mask text → IsStoredNote chunk.now other_mask other
+        → (mask ≡ other_mask) × (text ≡ other) }
+{
+    if chunk.len() < NOTE_OVERHEAD {
+        return None;
+    }
+    let (mask, pickle) = split_u32(chunk);
+    let (class, body) = split_u32(pickle);
+    let (version, field) = split_u32(body);
+    let (length, text) = split_u32(field);
+    if mask < MASK_LIMIT
+        && class == NOTE_CLASS
+        && version == NOTE_VERSION
+        && length as usize == text.len()
+        && is_note_text(text)
+    {
+        Some(text)
+    } else {
+        None
+    }
 }
 
 #[cfg(test)]
@@ -89,6 +138,56 @@ mod tests {
         let note = Note::new(Bytes::from(b"hello".to_vec(rt.alloc())?)).ok_or("no note")?;
         let chunk = stored_note(rt.alloc(), note.text())?;
         assert!(rt; chunk.as_slice() == b"\0\0\0\0\0\0\0\x01\0\0\0\x01\0\0\0\x05hello".as_slice());
+        assert!(rt; read_stored_note(chunk.as_slice()) == Some(b"hello".as_slice()));
+        Ok(())
+    }
+
+    #[test]
+    fn a_chunk_is_read_exactly_where_it_is_a_member_that_is_a_note(rt: HostRuntime) {
+        let table: [(&[u8], Option<&[u8]>); 16] = [
+            (b"\0\0\0\0\0\0\0\x01\0\0\0\x01\0\0\0\x01 ", Some(b" ")),
+            (b"\0\0\0\x05\0\0\0\x01\0\0\0\x01\0\0\0\x02hi", Some(b"hi")),
+            (b"\0\0\xff\xff\0\0\0\x01\0\0\0\x01\0\0\0\x02hi", Some(b"hi")),
+            (b"\0\x01\0\0\0\0\0\x01\0\0\0\x01\0\0\0\x02hi", None),
+            (b"\x01\0\0\0\0\0\0\x01\0\0\0\x01\0\0\0\x02hi", None),
+            (b"\0\0\0\0\0\0\0\x02\0\0\0\x01\0\0\0\x02hi", None),
+            (b"\0\0\0\0\0\0\0\0\0\0\0\x01\0\0\0\x02hi", None),
+            (b"\0\0\0\0\0\0\0\x01\0\0\0\x02\0\0\0\x02hi", None),
+            (b"\0\0\0\0\0\0\0\x01\0\0\0\0\0\0\0\x02hi", None),
+            (b"\0\0\0\0\0\0\0\x01\0\0\0\x01\0\0\0\x03hi", None),
+            (b"\0\0\0\0\0\0\0\x01\0\0\0\x01\0\0\0\x01hi", None),
+            (b"\0\0\0\0\0\0\0\x01\0\0\0\x01\0\0\0\x02h\x7f", None),
+            (b"\0\0\0\0\0\0\0\x01\0\0\0\x01\0\0\0\x02\x1fi", None),
+            (b"\0\0\0\0\0\0\0\x01\0\0\0\x01\0\0\0\0", None),
+            (b"\0\0\0\0\0\0\0\x01\0\0\0\x01\0\0\0", None),
+            (b"", None),
+        ];
+        for (chunk, expected) in table.iter() {
+            assert!(rt; read_stored_note(chunk) == *expected, "{chunk:?}");
+        }
+    }
+
+    #[test]
+    fn a_stored_note_has_at_most_2000_bytes_of_text(rt: HostRuntime) -> Result<(), Fail> {
+        for (last_byte, length, found) in [(0xd0, 2000, true), (0xd1, 2001, false)] {
+            let mut chunk = b"\0\0\0\0\0\0\0\x01\0\0\0\x01\0\0\x07".to_vec(rt.alloc())?;
+            chunk.push(last_byte)?;
+            for _ in 0..length {
+                chunk.push(b'~')?;
+            }
+            assert!(rt; read_stored_note(&chunk).is_some() == found, "{length}");
+        }
+        Ok(())
+    }
+
+    #[test]
+    fn a_note_shows_its_text(rt: HostRuntime) -> Result<(), Fail> {
+        let note = Note::new(Bytes::from(b"a {b} ~".to_vec(rt.alloc())?)).ok_or("no note")?;
+        let shown = format!(in rt.alloc(); "{note}")?;
+        assert!(rt; shown.as_str() == "a {b} ~");
+        assert!(rt; note.text() == b"a {b} ~".as_slice());
+        let other = Note::new(Bytes::from(b"caf\xc3\xa9".to_vec(rt.alloc())?));
+        assert!(rt; other.is_none());
         Ok(())
     }
 }

@@ -9,3 +9,10 @@ returns-in-Some-read_command-clause-unique c = line_value_unique c.args.bytes.no
 
 pub returns-clause-unique : goal.returns-clause-unique
 returns-clause-unique c = line_value_unique c.args.bytes.now
+
+pub returns-in-Some-read_command-2-clause-unique :
+    goal.returns-in-Some-read_command-2-clause-unique
+returns-in-Some-read_command-2-clause-unique c = line_value_unique c.args.bytes.now
+
+pub returns-in-Some-read_get-clause-unique : goal.returns-in-Some-read_get-clause-unique
+returns-in-Some-read_get-clause-unique c = line_value_unique c.args.bytes.now
