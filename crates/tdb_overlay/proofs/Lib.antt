@@ -1,0 +1,10 @@
+pub mod Chains
+pub mod Coverings
+pub mod KeptCovers
+pub mod Lengths
+pub mod LogLaws
+pub mod Needing
+pub mod Placings
+pub mod ReadingLaws
+pub mod Steps
+pub mod Unmistaken

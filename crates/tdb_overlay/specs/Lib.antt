@@ -1,0 +1,16 @@
+pub mod Changes
+pub mod Covering
+pub mod Found
+pub mod Growth
+pub mod Intact
+pub mod Keys
+pub mod Log
+pub mod Lookup
+pub mod Memory
+pub mod Needed
+pub mod Placement
+pub mod Reading
+pub mod Recovered
+pub mod Required
+pub mod SealedOnly
+pub mod StoreState

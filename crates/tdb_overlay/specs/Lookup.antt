@@ -1,0 +1,22 @@
+-- What the change lists say of a partition, and of one rank. A partition that isn't there has no rank that was changed.
+use Rattle.std.specs.Prelude.{ℕ, Option, Some, None}
+use Rattle.std.specs.FinMap.{get}
+use Rattle.std.specs.Option.{option_and_then}
+use Rattle.tdb_base.specs.declared.piece.Piece.{Piece}
+use Rattle.tdb_overlay.specs.Covering.{Covered, Covers}
+use Rattle.tdb_overlay.specs.declared.overlay.Leader.{Leader}
+use Rattle.tdb_overlay.specs.declared.overlay.Seen.{Seen}
+use Rattle.tdb_overlay.specs.declared.overlay.Seen.TheVariants.{Base, Gone, Here}
+
+-- what is told of a partition
+abbrev pub leader_of : Covered → Leader
+leader_of p = record { suite = p.suite; home = p.home; birth = p.birth; next = p.next; parent = p.parent; born = p.born }
+
+-- what a partition's edits say of a rank
+abbrev pub seen_in : Option (Option Piece) → Seen
+seen_in None = Base
+seen_in (Some None) = Gone
+seen_in (Some (Some piece)) = Here piece
+
+abbrev pub seen_at : Covers → ℕ → ℕ → Seen
+seen_at covers part rank = seen_in (option_and_then (λ p. get p.edits rank) (get covers part))

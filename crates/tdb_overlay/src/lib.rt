@@ -1,0 +1,21 @@
+//! What an open log is: the definitions of a well-formed log and of what it needs on the device, and
+//! the partitions as its change lists tell them.
+//!
+//! It stands on the formats and on the state of the database. Every promise on what a later run
+//! finds is stated in its words: `specs/` says which bytes of a trace are a store, and which are
+//! damage. What is changed there changes what each of those promises means.
+#![tactic(auto)]
+
+mod fetching;
+mod keys;
+mod laws;
+mod overlay;
+mod recovered;
+#[cfg(test)]
+mod tests;
+
+pub use fetching::{FetchError, fetch, fetch_text};
+pub use keys::Keys;
+pub use laws::{log_stays, log_tells_its_state};
+pub use overlay::{Leader, Overlay, Seen};
+pub use recovered::Recovered;

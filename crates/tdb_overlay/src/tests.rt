@@ -1,0 +1,251 @@
+//! Keys, overlays and fetches against values from outside.
+use crate::{FetchError, Keys, Leader, Overlay, Seen, fetch, fetch_text};
+use std::alloc::{AllocError, Global};
+use std::test::Fail;
+use tdb_base::{Damage, Digest, PartId, Piece, Place, Rank, Suite};
+use tdb_list::Entry;
+use tdb_platform::MemoryPlatform;
+
+const NOWHERE: Piece = Piece {
+    place: Place(0),
+    length: 0,
+    digest: Digest([0; 32]),
+};
+
+// SHA-256 of "abc", of no byte, of 44 zero bytes and of 256 zero bytes.
+const OF_ABC: Digest = Digest([
+    0xba, 0x78, 0x16, 0xbf, 0x8f, 0x01, 0xcf, 0xea, 0x41, 0x41, 0x40, 0xde, 0x5d, 0xae, 0x22, 0x23,
+    0xb0, 0x03, 0x61, 0xa3, 0x96, 0x17, 0x7a, 0x9c, 0xb4, 0x10, 0xff, 0x61, 0xf2, 0x00, 0x15, 0xad,
+]);
+
+const OF_NOTHING: Digest = Digest([
+    0xe3, 0xb0, 0xc4, 0x42, 0x98, 0xfc, 0x1c, 0x14, 0x9a, 0xfb, 0xf4, 0xc8, 0x99, 0x6f, 0xb9, 0x24,
+    0x27, 0xae, 0x41, 0xe4, 0x64, 0x9b, 0x93, 0x4c, 0xa4, 0x95, 0x99, 0x1b, 0x78, 0x52, 0xb8, 0x55,
+]);
+
+const OF_44_ZEROS: Digest = Digest([
+    0x85, 0x75, 0x9b, 0x38, 0x11, 0xff, 0x7d, 0xc4, 0x7b, 0x03, 0x79, 0x2a, 0xc8, 0x53, 0x17, 0xbe,
+    0x51, 0x43, 0x1a, 0x3f, 0x9e, 0x01, 0xdc, 0xaf, 0xce, 0x31, 0x7e, 0xd7, 0x36, 0xa3, 0x91, 0xb0,
+]);
+
+const OF_256_ZEROS: Digest = Digest([
+    0x53, 0x41, 0xe6, 0xb2, 0x64, 0x69, 0x79, 0xa7, 0x0e, 0x57, 0x65, 0x30, 0x07, 0xa1, 0xf3, 0x10,
+    0x16, 0x94, 0x21, 0xec, 0x9b, 0xdd, 0x9f, 0x1a, 0x56, 0x48, 0xf7, 0x5a, 0xde, 0x00, 0x5a, 0xf1,
+]);
+
+#[test]
+fn keys_are_tags_under_the_secret(rt: HostRuntime) {
+    let mut secret = [0; 32];
+    for (at, byte) in secret.iter_mut().enumerate() {
+        *byte = at as u8;
+    }
+    let keys = Keys::new(&secret);
+    // HMAC-SHA-256 of the labels TDBsystm and TDBpartn and of two numbers, by another implementation
+    assert!(rt;
+        keys.system().0
+            == [
+                0x29, 0x6a, 0x8c, 0x37, 0x2b, 0x2f, 0xca, 0x64, 0x74, 0x79, 0x13, 0x01, 0xb7, 0xe1,
+                0x58, 0xbe, 0x21, 0xb5, 0x3f, 0x84, 0x14, 0x70, 0x28, 0x97, 0xd9, 0x07, 0x96, 0x8d,
+                0x0a, 0x87, 0x6e, 0x3c,
+            ]
+    );
+    assert!(rt;
+        keys.partition(PartId(3), 7).0
+            == [
+                0xf0, 0x79, 0x4a, 0x9f, 0x63, 0xb3, 0xc3, 0x07, 0x00, 0x4b, 0x85, 0x54, 0x42, 0xd3,
+                0x28, 0x54, 0x71, 0x5b, 0xf6, 0xc5, 0x56, 0x63, 0x1e, 0x46, 0x00, 0x9d, 0x3b, 0x85,
+                0xf0, 0x9f, 0x7f, 0x37,
+            ]
+    );
+}
+
+fn entry_of(kind: u32, part: u32, rank: u32) -> Entry {
+    Entry {
+        kind,
+        part,
+        rank,
+        suite: 0,
+        home: 0,
+        birth: 0,
+        piece: NOWHERE,
+    }
+}
+
+fn write_of(part: u32, rank: u32, piece: Piece) -> Entry {
+    Entry {
+        kind: 1,
+        part,
+        rank,
+        suite: 1,
+        home: part,
+        birth: 2,
+        piece,
+    }
+}
+
+// A list of one entry.
+fn note_one(
+    alloc: Global,
+    overlay: &mut Overlay,
+    count: u64,
+    entry: Entry,
+) -> Result<bool, AllocError> {
+    if !entry.is_well_formed() {
+        return Ok(false);
+    }
+    overlay.note(alloc, count, &[entry])?;
+    Ok(true)
+}
+
+#[test]
+fn an_overlay_tells_what_lists_say(rt: HostRuntime) -> Result<(), Fail> {
+    let alloc = rt.alloc();
+    let piece = Piece {
+        place: Place(300_000),
+        length: 51,
+        digest: OF_ABC,
+    };
+    let mut overlay = Overlay::new(alloc);
+    let made = Entry {
+        suite: 1,
+        ..entry_of(3, 7, 0)
+    };
+    let steps = [
+        (2, made),
+        (3, write_of(7, 5, piece)),
+        (4, write_of(7, 9, piece)),
+        (4, entry_of(2, 7, 9)),
+        (5, entry_of(4, 7, 8)),
+        (6, entry_of(2, 7, 5)),
+        (6, entry_of(3, 4, 0)),
+        (7, entry_of(5, 4, 0)),
+    ];
+    for (count, entry) in steps {
+        assert!(rt;
+            note_one(alloc, &mut overlay, count, entry)?,
+            "count {count}"
+        );
+    }
+    let source = Leader {
+        suite: Suite::Aes128,
+        home: 7,
+        birth: 2,
+        next: 10,
+        parent: 0,
+        born: 2,
+    };
+    let copy = Leader {
+        suite: Suite::Aes128,
+        home: 7,
+        birth: 2,
+        next: 10,
+        parent: 7,
+        born: 5,
+    };
+    assert_eq!(rt; overlay.leader(PartId(7)), Some(source));
+    assert_eq!(rt; overlay.leader(PartId(8)), Some(copy));
+    assert_eq!(rt; overlay.leader(PartId(4)), None);
+    let told = [
+        (7, 5, Seen::Gone),
+        (7, 9, Seen::Gone),
+        (7, 6, Seen::Base),
+        (8, 5, Seen::Here(piece)),
+        (8, 9, Seen::Gone),
+        (4, 0, Seen::Base),
+    ];
+    for (part, rank, seen) in told {
+        assert_eq!(rt;
+            overlay.get(PartId(part), Rank(rank)),
+            seen,
+            "{part} {rank}"
+        );
+    }
+    Ok(())
+}
+
+fn platform_of(
+    alloc: Global,
+    image: &[u8],
+    stop: Option<u64>,
+) -> Result<MemoryPlatform, AllocError> {
+    MemoryPlatform::new(
+        alloc,
+        Vec::from_slice(alloc, image)?,
+        0,
+        [0; 32],
+        Vec::new(alloc),
+        stop,
+    )
+}
+
+fn piece_of(place: u64, length: u32, digest: Digest) -> Piece {
+    Piece {
+        place: Place(place),
+        length,
+        digest,
+    }
+}
+
+fn fetches(alloc: Global, platform: &mut MemoryPlatform, piece: &Piece, bytes: &[u8]) -> bool {
+    match fetch(alloc, platform, piece) {
+        Ok(found) => found.as_slice() == bytes,
+        Err(_) => false,
+    }
+}
+
+#[test]
+fn a_piece_is_fetched_where_it_has_its_digest(rt: HostRuntime) -> Result<(), Fail> {
+    let alloc = rt.alloc();
+    let mut platform = platform_of(alloc, b"wxyzabcd", None)?;
+    assert!(rt; fetches(alloc, &mut platform, &piece_of(4, 3, OF_ABC), b"abc"));
+    // past the end of the device there are no bytes
+    assert!(rt; fetches(alloc, &mut platform, &piece_of(8, 4, OF_NOTHING), b""));
+    let tampered = fetch(alloc, &mut platform, &piece_of(4, 3, OF_NOTHING));
+    let damage = Damage {
+        place: Place(4),
+        expected: OF_NOTHING,
+        found: OF_ABC,
+    };
+    assert!(rt; matches!(tampered, Err(FetchError::Tampered(it)) if it == damage));
+    let mut stopped = platform_of(alloc, b"abc", Some(1))?;
+    assert!(rt;
+        matches!(
+            fetch(alloc, &mut stopped, &piece_of(0, 3, OF_ABC)),
+            Err(FetchError::Fault)
+        )
+    );
+    Ok(())
+}
+
+#[test]
+fn a_text_is_fetched_from_its_slot(rt: HostRuntime) -> Result<(), Fail> {
+    let alloc = rt.alloc();
+    let mut platform = platform_of(alloc, &[0; 300], None)?;
+    // of the second slot 44 bytes are there, of the third none
+    let answers = [
+        (1, OF_256_ZEROS, Ok([0; 256])),
+        (1_025, OF_256_ZEROS, Ok([0; 256])),
+        (1, OF_NOTHING, damaged(0, OF_NOTHING, OF_256_ZEROS)),
+        (2, OF_256_ZEROS, damaged(256, OF_256_ZEROS, OF_44_ZEROS)),
+        (2, OF_44_ZEROS, damaged(256, OF_44_ZEROS, OF_44_ZEROS)),
+        (3, OF_NOTHING, damaged(512, OF_NOTHING, OF_NOTHING)),
+    ];
+    for (count, mark, answer) in answers {
+        assert!(rt; count > 0);
+        assert!(rt;
+            fetch_text(&mut platform, count, &mark) == answer,
+            "count {count}"
+        );
+    }
+    let mut stopped = platform_of(alloc, &[0; 300], Some(1))?;
+    assert!(rt; fetch_text(&mut stopped, 1, &OF_256_ZEROS) == Err(FetchError::Fault));
+    Ok(())
+}
+
+fn damaged(place: u64, expected: Digest, found: Digest) -> Result<[u8; 256], FetchError> {
+    Err(FetchError::Tampered(Damage {
+        place: Place(place),
+        expected,
+        found,
+    }))
+}
