@@ -1,0 +1,12 @@
+pub mod Answering
+pub mod Bases
+pub mod Behind
+pub mod Composing
+pub mod Ends
+pub mod Noting
+pub mod Replaying
+pub mod Rest
+pub mod Showing
+pub mod Steps
+pub mod Tables
+pub mod Taken

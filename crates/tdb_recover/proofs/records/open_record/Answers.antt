@@ -1,0 +1,41 @@
+use Rattle.std.proofs.Common.{◌≡◌, ◌∙◌, ap, sym, subst, Err, List, ℕ}
+use Rattle.tdb_mark.specs.CommitText.{commit_key_of, commit_of}
+use Rattle.tdb_seal.specs.SealedRecord.{IsSealedRecord}
+use Rattle.tdb_seal.proofs.RecordSpelling.{same_plain}
+use Rattle.tdb_overlay.specs.Keys.{system_key}
+use Rattle.tdb_recover.specs.Explained.{IsExplained}
+use Rattle.tdb_recover.proofs.Answering.{if_err_and}
+use Rattle.tdb_recover.proofs.Showing.{piece_error, read_is}
+use Rattle.tdb_recover.proofs.records.open_record.Goals as goal
+
+pub returns-in_err-bytes-clause-explained : goal.returns-in_err-bytes-clause-explained
+returns-in_err-bytes-clause-explained g c t =
+    let old = g.P.Platform.outside c.args.platform.now in
+    let new = g.P.Platform.outside c.fetch.new.platform in
+    if_err_and c.from_residual.result _ _ c.from_residual.ensures.1
+    (λ e is plain given.
+    subst (IsExplained old new (λ p. p ≡ c.args.piece.now)) (sym is)
+    (piece_error old new c.args.piece.now c.in_err-bytes.field-0.0 (λ damage same. let h = c.in_err-bytes.ensures.tampered damage (ap Err same) in (h.0, h.1, h.2 t))))
+
+pub returns-in-Ok-clause-plain : goal.returns-in-Ok-clause-plain
+returns-in-Ok-clause-plain g c t plain given =
+    let old = g.P.Platform.outside c.args.platform.now in
+    let new = g.P.Platform.outside c.fetch.new.platform in
+    let bytes = c.in_ok-bytes.bytes.items in
+    let piece = c.args.piece.now in
+    let is = read_is (commit_of (commit_key_of c.args.keys.now)) old.trace new.trace piece.place.0 piece.length bytes given.sealed piece.digest.0 (c.in_ok-bytes.ensures.read t) given.unforged given.found.0 c.in_ok-bytes.ensures.digest in
+    same_plain (system_key c.args.keys.now) c.args.name.now c.in-Ok.plain.items plain given.sealed
+    (subst (λ (key : List ℕ). IsSealedRecord key c.args.name.now c.in-Ok.plain.items given.sealed) c.system.ensures
+    (subst (λ (b : List ℕ). IsSealedRecord c.system.result.now.0 c.args.name.now c.in-Ok.plain.items b) (c.as_slice.ensures.value ∙ is) c.in-Ok.ensures.found))
+    given.opened
+
+pub returns-in-Err-Form-clause-explained : goal.returns-in-Err-Form-clause-explained
+returns-in-Err-Form-clause-explained g c t plain given =
+    let old = g.P.Platform.outside c.args.platform.now in
+    let new = g.P.Platform.outside c.fetch.new.platform in
+    let bytes = c.in_ok-bytes.bytes.items in
+    let piece = c.args.piece.now in
+    let is = read_is (commit_of (commit_key_of c.args.keys.now)) old.trace new.trace piece.place.0 piece.length bytes given.sealed piece.digest.0 (c.in_ok-bytes.ensures.read t) given.unforged given.found.0 c.in_ok-bytes.ensures.digest in
+    c.in-Err-Form.ensures.form (ap Err c.in-Err-Form.field-0-is) plain
+    (subst (λ (key : List ℕ). IsSealedRecord key c.args.name.now plain c.as_slice.result.now) (sym c.system.ensures)
+    (subst (λ (b : List ℕ). IsSealedRecord (system_key c.args.keys.now) c.args.name.now plain b) (sym (c.as_slice.ensures.value ∙ is)) given.opened))

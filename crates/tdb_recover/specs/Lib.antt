@@ -1,0 +1,6 @@
+pub mod Chain
+pub mod Damaged
+pub mod Explained
+pub mod Premises
+pub mod Records
+pub mod Replay

@@ -1,0 +1,20 @@
+//! Opening a log: what the device shows is checked against the anchor, text by text and piece by
+//! piece, and what it says is kept in memory.
+//!
+//! It stands on the formats of texts, tables and lists, and on the definitions of a log in
+//! tdb_overlay. It carries the promise that what is opened is the state that the anchor's log
+//! tells, whatever the device shows, and that damage is told only of a piece that the log needs.
+#![tactic(auto)]
+
+mod error;
+#[cfg(test)]
+mod first_path;
+mod opening;
+mod records;
+mod replay;
+#[cfg(test)]
+mod tests;
+mod texts;
+
+pub use error::OpenError;
+pub use opening::recover;
