@@ -1,0 +1,12 @@
+pub mod Calling
+pub mod Committing
+pub mod Growing
+pub mod Keeping
+pub mod Laying
+pub mod Logs
+pub mod PlacedLogs
+pub mod Sealing
+pub mod Shown
+pub mod Standing
+pub mod Starting
+pub mod Writing

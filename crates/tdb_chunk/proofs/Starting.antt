@@ -1,0 +1,179 @@
+-- The start of a log: where its table is placed, and what its text adds.
+use Rattle.std.proofs.Common.{◌≡◌, ℕ, zero, suc, ◌+◌, ◌-◌, ◌/◌, ◌≤◌, Bool, true, not, List, [], ◌∷◌, length, Option, Some, None, Ok, Result, IsTrue, ◌++◌, replicate, inl, inr, refl, sym, ap, subst, ◌∙◌, arith}
+use Rattle.std.proofs.lemmas.Bool.{false≢true, cond-true, eqb-true, eq-eqb, or_left}
+use Rattle.std.specs.List.{filter, range_with_len}
+use Rattle.std.specs.Cmp.{nat_cmp_total, unsigned_tied}
+use Rattle.std.specs.Ordering.{nat_cmp, eq_by_cmp}
+use Rattle.std.specs.FinSet.{FinSet, contains, contains-empty, contains-insert, empty, insert}
+use Rattle.std.specs.Prelude.{OnOk}
+use Rattle.sha2.specs.Sha256.{sha256}
+use Rattle.tdb_append.specs.Placed.{Placed}
+use Rattle.tdb_append.specs.declared.head.Head.{Head}
+use Rattle.tdb_base.specs.declared.piece.Piece.{Piece}
+use Rattle.tdb_base.specs.declared.piece.Place.{Place}
+use Rattle.tdb_base.specs.declared.piece.NoRoom.{NoRoom}
+use Rattle.tdb_mark.specs.declared.commit.Commit.{Commit}
+use Rattle.tdb_mark.specs.CommitChain.{commit_chain}
+use Rattle.tdb_mark.specs.CommitText.{commit_key_of, commit_of}
+use Rattle.tdb_model.specs.Apply.{History}
+use Rattle.tdb_model.specs.State.{no_partitions}
+use Rattle.tdb_node.specs.declared.table.Table.{Table}
+use Rattle.tdb_node.specs.SegmentTable.{IsTable, IsTableValue, IsUsed, table_bytes}
+use Rattle.tdb_append.specs.Put.{Puts}
+use Rattle.tdb_platform.specs.Outside.{Anchor, Outside}
+use Rattle.tdb_platform.specs.CrashStates.{CrashStates, now}
+use Rattle.tdb_overlay.specs.Growth.{IsSettled}
+use Rattle.tdb_seal.specs.SealedRecord.{IsSealedRecord}
+use Rattle.tdb_seg.specs.SegmentSpace.{SegmentSpace, IsSegmentSpace, at_free_segment, free_segments, fresh_space, missing_below, place_in, with_bytes}
+use Rattle.tdb_seg.specs.TableSpace.{table_space, used_in}
+use Rattle.tdb_seg.specs.InsideLaws.{contains-used_in}
+use Rattle.tdb_seg.proofs.Placing.{at_free-some, next-past, place-placed}
+use Rattle.std.specs.FinMap as map
+use Rattle.tdb_model.specs.State.{Partition}
+use Rattle.tdb_overlay.specs.Covering.{Covered, IsCoveredAt, IsCovering, no_covers}
+use Rattle.tdb_overlay.specs.Found.{Finds, Store}
+use Rattle.tdb_overlay.specs.Keys.{system_key}
+use Rattle.tdb_overlay.specs.Log.{IsCheckpointOn, IsLog, IsLogOf, IsStep, end_of}
+use Rattle.tdb_overlay.specs.Found.{in_trace}
+use Rattle.tdb_overlay.specs.StoreState.{StoreState, first_state}
+use Rattle.tdb_chunk.specs.Committing.{AddedFrom}
+use Rattle.tdb_chunk.specs.Formatting.{Formatted, IsStart, first_place, formatted_state, plain_store}
+use Rattle.tdb_chunk.specs.LaidOut.{IsOneOf, LaidOut, in_pieces}
+use Rattle.tdb_chunk.specs.Names.{table_name}
+use Rattle.tdb_chunk.specs.Text.{anchor_of, next_commit, text_in_slot, text_of}
+use Rattle.tdb_chunk.proofs.Growing.{Counts, Steps, put_added}
+
+first_is_free : (n : ℕ) → 16 ≤ n → at_free_segment (free_segments (fresh_space n)) 0 ≡ Some first_place
+unfolding missing_below
+first_is_free zero least = absurd (omega (arith, least))
+first_is_free (suc m) least =
+    let p : ℕ → Bool = λ k. not (contains (empty {R = nat_cmp}) k) in
+    let here : p 0 ≡ true = ap not (contains-empty nat_cmp 0) in
+    ap (λ (ks : List ℕ). at_free_segment ks 0) (cond-true (p 0) (0 ∷ filter p (range_with_len 1 m)) (filter p (range_with_len 1 m)) here)
+    ∙ at_free-some 0 (filter p (range_with_len 1 m)) 0 (omega arith)
+
+-- the first piece of a fresh device goes to the start of the first segment
+pub first_placed : (n : ℕ) → 16 ≤ n → place_in (fresh_space n) 576 0 ≡ Ok (first_place, with_bytes (fresh_space n) first_place 576)
+first_placed n least = place-placed (fresh_space n) 576 0 first_place (next-past (fresh_space n) 576 0 (omega arith) ∙ first_is_free n least)
+
+first_used : (table : Table) → IsTableValue table → used_in table ≡ insert empty 0 → IsUsed table 0
+first_used table value used =
+    let there : contains (used_in table) 0 ≡ true =
+    ap (λ (s : FinSet nat_cmp). contains s 0) used ∙ contains-insert nat_cmp_total (empty {R = nat_cmp}) 0 0 ∙ or_left (eq_by_cmp nat_cmp 0 0) (contains (empty {R = nat_cmp}) 0) (unsigned_tied 0 0 ∙ eq-eqb 0 0 refl) in
+    eqb-true _ 1 (sym (contains-used_in table value 0) ∙ there)
+
+pub the_start : (place p : Place) (space s : SegmentSpace) → ◌≡◌ {A = Result (Place × SegmentSpace) NoRoom} (Ok (place, space)) (Ok (p, s)) → (place ≡ p) × (space ≡ s)
+the_start place p space s e =
+    let pair : (place, space) ≡ (p, s) = cc in
+    (ap (λ (q : Place × SegmentSpace). q.0) pair, ap (λ (q : Place × SegmentSpace). q.1) pair)
+
+only_one : (p : Placed) → IsOneOf (p ∷ []) p.place p.bytes
+only_one p = inl (refl, refl)
+
+module _ (secret : List ℕ) (head : Head) (segments : ℕ) (first : Piece) (table : Table) (sealed : List ℕ) (space : SegmentSpace)
+    (digest : sha256 sealed ≡ first.digest.0) (size : first.length ≡ length sealed) (long : length sealed ≡ 576) (opened : IsSealedRecord (system_key secret) table_name (table_bytes table) sealed) (is_table : IsTable table) (value : IsTableValue table)
+    (numbered : table.segments ≡ segments) (used : used_in table ≡ insert empty 0) (placed_at : place_in (fresh_space segments) 576 0 ≡ Ok (first.place, space)) (least : 16 ≤ segments) (most : segments ≤ 4096) (zero_count : head.count ≡ 0) where
+  abbrev pieces : List Placed
+  pieces = record { place = first.place.0; bytes = sealed } ∷ []
+
+  abbrev commit : Commit
+  commit = next_commit head 2 1 segments first
+
+  at : (first.place ≡ first_place) × (space ≡ with_bytes (fresh_space segments) first_place 576)
+  at = the_start first.place first_place space (with_bytes (fresh_space segments) first_place 576) (sym placed_at ∙ first_placed segments least)
+
+  place_is : first.place.0 ≡ 262144
+  place_is = ap (λ (p : Place). p.0) at.0
+
+  behind : table_space table (end_of first) ≡ with_bytes (fresh_space segments) first_place 576
+  behind =
+      let long_is : first.length ≡ 576 = size ∙ long in
+      ap (λ (n : ℕ). table_space table (record { 0 = first.place.0 + n })) long_is
+      ∙ ap (λ (n : ℕ). table_space table (record { 0 = n + 576 })) place_is
+      ∙ ap (λ (s : FinSet nat_cmp). let x : SegmentSpace = record { segments = table.segments; used = s; tail = Some (record { 0 = 262720 }) } in x) used
+      ∙ ap (λ (n : ℕ). let x : SegmentSpace = record { segments = n; used = insert empty 0; tail = Some (record { 0 = 262720 }) } in x) numbered
+
+  used_first : IsUsed table (first.place.0 / 262144 - 1)
+  used_first = subst (λ (p : Place). IsUsed table (p.0 / 262144 - 1)) (sym at.0) (first_used table value used)
+
+  pub start_is : LaidOut secret (fresh_space segments) space pieces → IsStart secret head segments commit pieces space
+  start_is laid = record {
+    first = first;
+    commit = refl;
+    laid = laid;
+    table = record {
+      sealed = sealed;
+      table = table;
+      found = (digest, only_one (record { place = first.place.0; bytes = sealed }), size);
+      opened = opened;
+      is_table = is_table;
+      value = value;
+      segments = numbered;
+      used = used_first;
+    };
+    after = behind ∙ sym at.1;
+    in_format = record {
+      base = omega arith;
+      kind = inr (refl, omega (arith, zero_count));
+      fewest = least;
+      most = most;
+      first = (0, omega arith, record { some = omega (arith, size, long); begins = omega (arith, place_is); ends = omega (arith, place_is, size, long) });
+      root = tt;
+    };
+    is_first = at.1;
+  }
+
+no_chain : (chain : List Commit) → ◌≡◌ {A = Option (List Commit)} (Some []) (Some chain) → [] ≡ chain
+no_chain chain e = cc
+
+-- an anchor of count 0 has no text
+pub starts_first : (o : Outside) (store : Store) (before : History) (from : StoreState) → o.anchor.0 ≡ 0 → IsLog o.trace.written store o.anchor before from → from ≡ first_state store
+starts_first o store before from start is =
+    let ends = subst (λ (n : ℕ). commit_chain o.trace.written (commit_of (commit_key_of store.secret)) n o.anchor.1 ≡ Some is.chain) start is.ends in
+    let none = subst (λ (chain : List Commit). IsLogOf (in_trace o.trace.written) store (first_state store) chain before from) (sym (no_chain is.chain ends)) is.tells in
+    none.1
+
+-- the first text is a checkpoint on no text
+pub first_steps : (o : Outside) (secret : List ℕ) (head : Head) (segments : ℕ) (c : Commit) (ps : List Placed) (space : SegmentSpace) → IsStart secret head segments c ps space → head.count ≡ 0 → o.anchor.0 ≡ 0
+    → Steps (λ _. Unit {0}) (plain_store secret segments) o ps c (Formatted (plain_store secret segments))
+first_steps o secret head segments c ps space s zero_count start before from is known =
+    let store : Store = plain_store secret segments in
+    let from_is : from ≡ first_state store = starts_first o store before from start is in
+    let one : c.count ≡ 1 = omega (arith, ap (λ (k : Commit). k.count) s.commit, zero_count) in
+    let none : from.count ≡ 0 = ap (λ (x : StoreState). x.count) from_is in
+    let after : formatted_state store ≡ record { count = c.count; base = c.count; space = table_space s.table.table (end_of c.first); chunks = from.chunks } =
+    ap (λ (n : ℕ). let x : StoreState = record { count = n; base = n; space = with_bytes (fresh_space segments) first_place 576; chunks = no_partitions } in x) (sym one)
+    ∙ ap (λ (y : SegmentSpace). let x : StoreState = record { count = c.count; base = c.count; space = y; chunks = no_partitions } in x) (sym (s.after ∙ s.is_first))
+    ∙ ap (λ (y : StoreState). let x : StoreState = record { count = c.count; base = c.count; space = table_space s.table.table (end_of c.first); chunks = y.chunks } in x) (sym from_is) in
+    let checkpoint : IsCheckpointOn (in_pieces ps) store from c (formatted_state store) = record {
+      kind = ap (λ (k : Commit). k.kind) s.commit;
+      next = omega (arith, one, none);
+      root = ap (λ (k : Commit). k.root) s.commit;
+      none = ap (λ (x : StoreState). x.chunks) from_is;
+      table = s.table;
+      after_is = after;
+    } in
+    let step : IsStep (in_pieces ps) store from c [] (formatted_state store) =
+    record { suite = ap (λ (k : Commit). k.suite) s.commit; segments = ap (λ (k : Commit). k.segments) s.commit; adds = inl (checkpoint, refl) } in
+    ([], formatted_state store, (refl, none, refl), step)
+
+-- a fresh space is one
+pub fresh_valid : (n : ℕ) → 16 ≤ n → n ≤ 4096 → IsSegmentSpace (fresh_space n)
+fresh_valid n least most = record { least = least; most = most; used = λ k used. absurd (false≢true (sym (contains-empty nat_cmp k) ∙ used)); tail = refl }
+
+-- a put of the start adds the first text
+pub format_added : {D T E : Type 0} (outside : D → Outside) (crash_states : D → CrashStates) (counts : Counts outside crash_states) (secret : List ℕ) (head : Head) (segments : ℕ) (c : Commit) (ps : List Placed) (space : SegmentSpace) (old new : D)
+    (result : Result T E) → IsStart secret head segments c ps space → head.count ≡ 0 → head.mark.0 ≡ replicate 32 0 → commit_of (commit_key_of secret) (text_of secret c) ≡ Some c → IsTrue (outside old).tells → (outside old).anchor.0 ≡ 0
+    → IsSettled outside crash_states old → Puts outside crash_states old new (ps ++ text_in_slot secret c ∷ []) (anchor_of secret c) result → OnOk result ((outside new).anchor ≡ anchor_of secret c)
+    → OnOk result ((i : List ℕ) (a : Anchor) → now outside crash_states new i a → a ≡ anchor_of secret c)
+    → AddedFrom outside crash_states (λ _. Unit {0}) (plain_store secret segments) old new (Formatted (plain_store secret segments)) result
+format_added outside crash_states counts secret head segments c ps space old new result s zero_count zeros reads tells start settled puts advanced only =
+    put_added outside crash_states counts (λ _. Unit {0}) (Formatted (plain_store secret segments)) (plain_store secret segments) old new 0 (replicate 32 0) (text_in_slot secret c) ps c reads
+    (omega (arith, ap (λ (k : Commit). k.count) s.commit, zero_count)) (ap (λ (k : Commit). k.prev.0) s.commit ∙ zeros) (λ zero. refl) (first_steps (outside old) secret head segments c ps space s zero_count start) tells start (inr refl) settled
+    result puts advanced only
+
+-- where nothing is told, there is no partition
+pub nothing_covered : (finds : Finds) (secret : List ℕ) → IsCovering finds secret no_covers no_partitions
+nothing_covered finds secret part =
+    subst (λ (o : Option Covered). IsCoveredAt finds secret o (map.get no_partitions part)) (sym (map.get-empty {X = Covered} nat_cmp part))
+    (subst (λ (o : Option Partition). IsCoveredAt finds secret None o) (sym (map.get-empty {X = Partition} nat_cmp part)) tt)

@@ -1,0 +1,26 @@
+use Rattle.std.proofs.Common.{ℕ, List, Some, refl, sym, ◌∙◌, ap}
+use Rattle.std.proofs.lemmas.Result.{IfOk-weaker}
+use Rattle.tdb_overlay.proofs.ReadingLaws.{reads_nothing}
+use Rattle.tdb_chunk.proofs.Shown.{damaged_chunk, known_chunk, known_lack}
+use Rattle.tdb_chunk.proofs.store.Store.read.Goals as goal
+
+pub returns-in_default-clause-reads : goal.returns-in_default-clause-reads
+returns-in_default-clause-reads g c = reads_nothing g.P.Platform.outside g.P.Platform.crash_states g.met.P.Platform.counts c.args.platform.now
+
+pub returns-in_default-get-clause-reads : goal.returns-in_default-get-clause-reads
+returns-in_default-get-clause-reads g c = reads_nothing g.P.Platform.outside g.P.Platform.crash_states g.met.P.Platform.counts c.args.platform.now
+
+pub returns-in_default-get-clause-no_chunk : goal.returns-in_default-get-clause-no_chunk
+returns-in_default-get-clause-no_chunk g c last known =
+    let o = g.P.Platform.outside c.args.platform.now in
+    (λ is. known_lack o c.args.self.now last known c.args.part.0 c.args.rank.0 c.in-Some.leader c.in-Some.ensures (λ piece here. c.in_default-get.not-Here piece (c.get.ensures ∙ here)), λ both. refl)
+
+pub returns-clause-chunk : goal.returns-clause-chunk
+returns-clause-chunk g c tells unforged last known =
+    let o = g.P.Platform.outside c.args.platform.now in
+    let k = known_chunk o c.args.self.now last known c.args.part.0 c.args.rank.0 c.in-Some.leader c.in-Some.ensures c.in-Here.piece c.in-Here.ensures in
+    IfOk-weaker c.read_chunk.result _ _ (λ bytes same. k.is_there ∙ ap (λ (l : List ℕ). Some l) (sym same)) (c.read_chunk.ensures.bytes tells unforged k.sealed k.bytes k.found.0 k.opened)
+
+pub returns-clause-tampered : goal.returns-clause-tampered
+returns-clause-tampered g c damage is tells last known =
+    damaged_chunk (g.P.Platform.outside c.args.platform.now) (g.P.Platform.outside c.read_chunk.new.platform) c.args.self.now last known c.args.part.0 c.args.rank.0 c.in-Here.piece damage c.in-Here.ensures tells (c.read_chunk.ensures.tampered damage is)

@@ -1,0 +1,51 @@
+-- What laying the start of a log does.
+use Rattle.std.specs.Prelude.{◌≡◌, ℕ, List, []}
+use Rattle.tdb_append.specs.Placed.{Placed}
+use Rattle.tdb_append.specs.declared.head.Head.{Head}
+use Rattle.tdb_base.specs.declared.piece.Piece.{Piece}
+use Rattle.tdb_base.specs.declared.piece.Place.{Place}
+use Rattle.tdb_base.specs.declared.suite.Suite.TheVariants.{Plain}
+use Rattle.tdb_mark.specs.declared.commit.Commit.{Commit}
+use Rattle.tdb_mark.specs.CommitFormat.{IsInFormat}
+use Rattle.tdb_model.specs.State.{no_partitions}
+use Rattle.tdb_seg.specs.SegmentSpace.{SegmentSpace, fresh_space, segment_start, with_bytes}
+use Rattle.tdb_overlay.specs.Changes.{HasTable}
+use Rattle.tdb_overlay.specs.Found.{Store}
+use Rattle.tdb_overlay.specs.Growth.{Commits}
+use Rattle.tdb_overlay.specs.StoreState.{StoreState, record_length}
+use Rattle.tdb_seg.specs.TableSpace.{table_space}
+use Rattle.tdb_overlay.specs.Log.{end_of}
+use Rattle.tdb_chunk.specs.LaidOut.{LaidOut, in_pieces}
+use Rattle.tdb_chunk.specs.Text.{next_commit}
+
+-- a store in suite plain
+abbrev pub plain_store : List ℕ → ℕ → Store
+plain_store secret segments = record { secret = secret; suite = Plain; segments = segments }
+
+-- the start of the first segment
+abbrev pub first_place : Place
+first_place = record { 0 = segment_start 0 }
+
+-- The state of a store that was formatted: its table, of 528 bytes, is sealed at the start of the first segment, and that
+-- segment alone is used.
+abbrev pub formatted_state : Store → StoreState
+formatted_state store = record {
+  count = 1;
+  base = 1;
+  space = with_bytes (fresh_space store.segments) first_place (record_length store.suite 528);
+  chunks = no_partitions;
+}
+
+-- From no text to the first checkpoint, which is no commit.
+abbrev pub Formatted : Store → Commits
+Formatted store from more to = (more ≡ []) × (from.count ≡ 0) × (to ≡ formatted_state store)
+
+-- The start of a log that is laid: its text names the table, which has the space behind the table itself.
+pub record IsStart (secret : List ℕ) (head : Head) (segments : ℕ) (c : Commit) (pieces : List Placed) (space : SegmentSpace) : Type 0 where
+  pub first : Piece
+  pub commit : c ≡ next_commit head 2 1 segments first
+  pub laid : LaidOut secret (fresh_space segments) space pieces
+  pub table : HasTable (in_pieces pieces) secret c
+  pub after : table_space table.table (end_of c.first) ≡ space
+  pub in_format : IsInFormat c
+  pub is_first : space ≡ with_bytes (fresh_space segments) first_place 576

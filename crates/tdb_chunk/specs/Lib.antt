@@ -1,0 +1,9 @@
+pub mod Committing
+pub mod Known
+pub mod LaidOut
+pub mod Formatting
+pub mod Names
+pub mod Preparing
+pub mod Reading
+pub mod Text
+pub mod Writing

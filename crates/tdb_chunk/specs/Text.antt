@@ -1,0 +1,39 @@
+-- The next text of a log, and the anchor and the head that name it.
+use Rattle.std.specs.Prelude.{ℕ, ◌+◌, List}
+use Rattle.sha2.specs.Sha256.{sha256}
+use Rattle.tdb_append.specs.declared.head.Head.{Head}
+use Rattle.tdb_append.specs.Placed.{Placed}
+use Rattle.tdb_append.specs.Put.{slot_place}
+use Rattle.tdb_base.specs.declared.piece.Piece.{Piece}
+use Rattle.tdb_base.specs.declared.suite.Suite.TheVariants.{Plain}
+use Rattle.tdb_mark.specs.declared.commit.Commit.{Commit}
+use Rattle.tdb_mark.specs.CommitText.{commit_key_of, commit_text}
+use Rattle.tdb_platform.specs.Outside.{Anchor}
+use Rattle.std.specs.Prelude.{None}
+
+-- the text of a commit under the key of a secret
+abbrev pub text_of : List ℕ → Commit → List ℕ
+text_of secret c = commit_text (commit_key_of secret) c
+
+-- its text, in the slot of its count
+abbrev pub text_in_slot : List ℕ → Commit → Placed
+text_in_slot secret c = record { place = slot_place c.count; bytes = text_of secret c }
+
+abbrev pub anchor_of : List ℕ → Commit → Anchor
+anchor_of secret c = (c.count, sha256 (text_of secret c))
+
+abbrev pub next_head : List ℕ → Head → Commit → Head
+next_head secret head c = record { count = c.count; mark = record { 0 = sha256 (text_of secret c) }; base = head.base }
+
+-- what the next text says, by its kind, its base and the piece that it names
+abbrev pub next_commit : Head → ℕ → ℕ → ℕ → Piece → Commit
+next_commit head kind base segments first = record {
+  kind = kind;
+  suite = Plain;
+  count = head.count + 1;
+  prev = head.mark;
+  base = base;
+  segments = segments;
+  first = first;
+  root = None;
+}

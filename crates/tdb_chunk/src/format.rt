@@ -1,0 +1,152 @@
+//! The start of a log on a device.
+ghost use Rattle.std.specs.Prelude.{◌≡◌, ◌≤◌, ◌+◌, Err, IfErr, IfOk, IsTrue, OnOk, replicate};
+ghost use Rattle.tdb_append.specs.Placed.{placed};
+ghost use Rattle.tdb_base.specs.Rose.{Rose};
+ghost use Rattle.tdb_mark.specs.declared.commit.Commit.{Commit};
+ghost use Rattle.tdb_seg.specs.SegmentSpace.{fresh_space, with_bytes};
+ghost use Rattle.tdb_overlay.specs.Growth.{Added, IsSettled};
+ghost use Rattle.tdb_overlay.specs.Intact.{StaysIntact};
+ghost use Rattle.tdb_overlay.specs.SealedOnly.{OnlySealed};
+ghost use Rattle.tdb_chunk.specs.declared.format.StoreError.TheVariants.{Fault, Memory};
+ghost use Rattle.tdb_chunk.specs.Formatting.{Formatted, IsStart, first_place, formatted_state, plain_store};
+ghost use Rattle.tdb_chunk.specs.Text.{next_commit};
+ghost use Rattle.tdb_chunk.specs.Known.{IsAtHead, Knows, store_of};
+
+use crate::batch::Batch;
+use crate::records::seal_table;
+use crate::store::Store;
+use crate::text::put_commit;
+use std::alloc::Global;
+use tdb_append::Head;
+use tdb_base::{Digest, Piece, Suite};
+use tdb_mark::{CHECKPOINT, Commit};
+use tdb_overlay::{Keys, Overlay, Recovered};
+use tdb_platform::Platform;
+use tdb_seg::Segments;
+use thiserror::Error;
+
+/// How many bytes the record of a segment table has.
+const TABLE_RECORD: u32 = 576;
+
+/// Why no store was formatted.
+#[derive(Clone, Copy, Debug, PartialEq, Eq, Error)]
+pub enum StoreError {
+    /// Memory ran out. Nothing was written.
+    #[error("memory ran out")]
+    Memory,
+    /// The platform failed. The start of the log may stand or not.
+    #[error("the platform failed")]
+    Fault,
+}
+
+/// The start of a log that is laid, and not yet written: its table, and the text that names it.
+#[derive(Drop)]
+struct Start {
+    commit: Commit,
+    batch: Batch,
+}
+
+/// The segments behind the table of a fresh device.
+fn first_space(segments: u32) -> Segments
+    requires least { 16 ≤ segments }
+    requires most { segments ≤ 4096 }
+    ensures { result ≡ with_bytes (fresh_space segments) first_place 576 }
+{
+    let mut space = Segments::new(segments);
+    let _place = space.place(TABLE_RECORD, 0);
+    space
+}
+
+/// No text yet.
+fn no_head() -> Head
+    ensures count { result.count ≡ 0 }
+    ensures mark { result.mark.0 ≡ replicate 32 0 }
+    ensures base { result.base ≡ 1 }
+{
+    Head {
+        count: 0,
+        mark: Digest([0; 32]),
+        base: 1,
+    }
+}
+
+/// The first text: a checkpoint without partitions.
+fn first_commit(head: &Head, segments: u32, first: Piece) -> Commit
+    requires { head.now.count ≡ 0 }
+    ensures { result ≡ next_commit head.now 2 1 segments first }
+{
+    Commit {
+        kind: CHECKPOINT,
+        suite: Suite::Plain,
+        count: head.count + 1,
+        prev: head.mark,
+        base: 1,
+        segments,
+        first,
+        root: None,
+    }
+}
+
+/// Seals and places the table of a fresh device.
+fn lay_start(alloc: Global, keys: &Keys, head: &Head, segments: u32) -> Result<Start, StoreError>
+    requires least { 16 ≤ segments }
+    requires most { segments ≤ 4096 }
+    requires head { head.now.count ≡ 0 }
+    ensures start { IfOk result (λ start. IsStart keys.now head.now segments start.commit (placed start.batch.pieces.items) start.batch.segments) }
+    ensures memory { IfErr result (λ e. e ≡ Memory) }
+{
+    let Ok(table) = seal_table(alloc, keys, &first_space(segments).table()) else {
+        return Err(StoreError::Memory);
+    };
+    let mut batch = Batch::new(alloc, Segments::new(segments));
+    let Ok(first) = batch.lay(table, 0) else {
+        return Err(StoreError::Memory);
+    };
+    let commit = first_commit(head, segments, first);
+    Ok(Start { commit, batch })
+}
+
+impl Store {
+    /// Lays the start of a log on a device whose anchor has the count 0: the segment table, and the checkpoint that names
+    /// it. There are 16 to 4,096 segments. After `Err(Fault)` the start stands or not.
+    pub fn format<P: Platform>(
+        alloc: Global,
+        platform: &mut P,
+        keys: Keys,
+        segments: u32,
+    ) -> Result<Store, StoreError>
+        requires first { IsTrue (P.outside platform.old).tells → (P.outside platform.old).anchor.0 ≡ 0 }
+        requires settled { IsSettled P.outside P.crash_states platform.old }
+        requires least { 16 ≤ segments }
+        requires most { segments ≤ 4096 }
+        ensures store { IfOk result (λ store. store_of store ≡ plain_store keys segments) }
+        ensures at_head { IfOk result (λ store. IsAtHead (P.outside platform.new) store) }
+        ensures settled { OnOk result (IsSettled P.outside P.crash_states platform.new) }
+        // the log has its first text, and no commit
+        ensures added { IsTrue (P.outside platform.old).tells → Added P.outside P.crash_states (plain_store keys segments) platform.old platform.new (Formatted (plain_store keys segments)) result }
+        ensures knows { IfOk result (λ store. Knows (P.outside platform.new) store (formatted_state (plain_store keys segments))) }
+        // no piece that the log needs was written over
+        ensures whole { StaysIntact (plain_store keys segments) (P.outside platform.old) (P.outside platform.new) }
+        // only sealed records and texts go to the device
+        ensures sealed { OnlySealed keys (P.outside platform.old) (P.outside platform.new) }
+        ensures memory { result ≡ Err Memory → platform.new ≡ platform.old }
+        ensures fault { result ≡ Err Fault → Rose (P.outside platform.old).faults (P.outside platform.new).faults }
+        ensures tells { (P.outside platform.new).tells ≡ (P.outside platform.old).tells }
+        ensures honest { (P.outside platform.new).honest ≡ (P.outside platform.old).honest }
+        ensures no_fewer { (P.outside platform.old).faults ≤ (P.outside platform.new).faults }
+    {
+        let head = no_head();
+        let Start { commit, batch } = lay_start(alloc, &keys, &head, segments)?;
+        let Ok(head) = put_commit(platform, &keys, &head, &commit, &batch.pieces) else {
+            return Err(StoreError::Fault);
+        };
+        Ok(Store {
+            keys,
+            log: Recovered {
+                head,
+                segments: batch.segments,
+                overlay: Overlay::new(alloc),
+            },
+        })
+    }
+}

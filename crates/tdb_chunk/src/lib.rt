@@ -1,0 +1,23 @@
+//! The store of chunks: it lays the log's start on a device, commits changes to it, and reads chunks.
+//!
+//! It stands on the formats, on the definitions of a well-formed log, on the placing of pieces, and on `put` for each
+//! text. It carries the promise that each commit makes the log longer by exactly its changes, as the definition
+//! `commit_on` has them, and that a read gives the bytes of the log's state, whatever the device shows.
+#![tactic(auto)]
+
+mod batch;
+mod changes;
+mod chunk;
+mod commit;
+mod format;
+mod opening;
+mod reading;
+mod records;
+mod store;
+#[cfg(test)]
+mod tests;
+mod text;
+
+pub use chunk::Chunk;
+pub use format::StoreError;
+pub use store::Store;
