@@ -1,5 +1,6 @@
 #!/usr/bin/env bash
-# Makes a database on real files, commits one note to it, and checks every answer and place.
+# Makes a database on real files, commits a note to it, reads it in a later run, and has the device altered behind its
+# back. It checks every answer and place.
 #
 #   ./demo.sh            in a temporary folder, which is removed at the end
 #   ./demo.sh FOLDER     in that folder, which must not be there yet, and stays
@@ -19,13 +20,29 @@ expect() {
 demo: but it is: $3"
 }
 
+# tdb WORDS..: runs the program over the files, with the script on standard input
+tdb() {
+    status=0
+    "$program" device anchor secret "$@" >replies || status=$?
+}
+
+# mark_of_anchor: the digest that the anchor has
+mark_of_anchor() {
+    od -An -v -tx1 -j8 anchor | tr -d ' \n'
+}
+
+# put_byte PLACE BYTE: the device's holder alters one byte
+put_byte() {
+    printf '%s' "$2" | dd of=device bs=1 seek="$1" conv=notrunc status=none
+}
+
 # piece PLACE LENGTH: so many bytes of the device from a place on
 piece() {
     tail -c "+$(($1 + 1))" device | head -c "$2"
 }
 
 here=$(cd "$(dirname "$0")" && pwd)
-tdb=$here/crates/tdb/out/tdb
+program=$here/crates/tdb/out/tdb
 
 echo "== Proving and building the program"
 command -v rt >/dev/null || fail "the command rt isn't there: put the toolchain's bin on the PATH"
@@ -51,8 +68,7 @@ head -c 32 /dev/urandom >secret
 printf '%s\n' 'begin 1' 'new 1 note hello' 'commit 1' 'quit' >script
 
 echo "== tdb device anchor secret start plain 16 <script"
-status=0
-"$tdb" device anchor secret start plain 16 <script >replies || status=$?
+tdb start plain 16 <script
 paste -d '|' script replies | sed 's/|/   ->   /'
 echo "status $status"
 expect "the status" 0 "$status"
@@ -64,7 +80,7 @@ bye" "$(cat replies)"
 echo "== The anchor: the count of commit texts in 8 bytes, and the SHA-256 of the last text"
 od -An -v -tx1 anchor
 expect "the count" 0000000000000003 "$(od -An -v -tx1 -N8 anchor | tr -d ' \n')"
-expect "the mark" "$(piece 512 256 | sha256sum | head -c 64)" "$(od -An -v -tx1 -j8 anchor | tr -d ' \n')"
+expect "the mark" "$(piece 512 256 | sha256sum | head -c 64)" "$(mark_of_anchor)"
 
 echo "== The places that were written: place, length, first 8 bytes"
 while read -r place length magic what; do
@@ -85,12 +101,56 @@ expect "the note" hello "$(piece 262992 5)"
 
 echo "== A store isn't made twice: the same words again"
 before=$(sha256sum device anchor)
-status=0
-line=$("$tdb" device anchor secret start plain 16 <script) || status=$?
-echo "$line"
-echo "status $status"
-expect "the last line" "already formatted" "$line"
+tdb start plain 16 <script
+cat replies
+expect "the last line" "already formatted" "$(cat replies)"
 expect "the status" 3 "$status"
 expect "the files" "$before" "$(sha256sum device anchor)"
+
+echo "== A later run finds the note: tdb device anchor secret run <get"
+printf '%s\n' 'begin 1' 'get 1 1' 'quit' >get
+tdb run <get
+paste -d '|' get replies | sed 's/|/   ->   /'
+expect "the status" 0 "$status"
+expect "the replies" "begun 1
+got 1 1 note hello
+bye" "$(cat replies)"
+expect "the files" "$before" "$(sha256sum device anchor)"
+
+echo "== The device's holder alters one byte of the note, hello to jello: the same run again"
+put_byte 262992 j
+tdb run <get
+paste -d '|' get replies | sed 's/|/   ->   /'
+expect "the status" 0 "$status"
+expect "the replies" "begun 1
+tampered 1 1
+bye" "$(cat replies)"
+put_byte 262992 h
+
+echo "== One byte of the last commit text is altered: the run doesn't start"
+cp device kept
+put_byte 560 x
+tdb run <get
+cat replies
+echo "status $status"
+expect "the status" 4 "$status"
+expect "the last line" "tampered 512 $(mark_of_anchor) $(piece 512 256 | sha256sum | head -c 64)" "$(cat replies)"
+cp kept device
+
+echo "== Another note is committed, and the device of before is put back: the anchor tells"
+printf '%s\n' 'begin 2' 'new 2 note world' 'commit 2' 'quit' >script
+tdb run <script
+paste -d '|' script replies | sed 's/|/   ->   /'
+expect "the status" 0 "$status"
+expect "the replies" "begun 2
+made 2 2
+committed 2
+bye" "$(cat replies)"
+cp kept device
+tdb run <get
+cat replies
+echo "status $status"
+expect "the status" 4 "$status"
+expect "the last line" "tampered 768 $(mark_of_anchor) $(piece 768 256 | sha256sum | head -c 64)" "$(cat replies)"
 
 echo "== All as it should be"

@@ -1,6 +1,6 @@
 //! The words of a command.
-ghost use Rattle.std.specs.Prelude.{[], ◌∷◌, IfSome, IfNone};
-ghost use Rattle.tdb_run.specs.Command.{IsNoCommand, texts};
+ghost use Rattle.std.specs.Prelude.{◌≡◌, ◌≤◌, ◌<◌, ◌^◌, [], ◌∷◌, ℕ, IfSome, IfNone, codes, decimal};
+ghost use Rattle.tdb_run.specs.Command.{IsNoCommand, IsSize, texts};
 ghost use Rattle.tdb_run.specs.CommandValue.{IsCommandOf};
 
 use tdb_base::{Suite, read_decimal};
@@ -15,6 +15,10 @@ const MOST_SEGMENTS: u64 = 4096;
 pub(crate) enum Command {
     /// `start plain SEGMENTS` makes a store of so many segments and answers a script.
     Start(u32),
+    /// `format plain SEGMENTS` makes a store of so many segments.
+    Format(u32),
+    /// `run` answers a script over a store that is there.
+    Run,
 }
 
 /// Reads the words of a command, or `None` where they are none.
@@ -22,29 +26,82 @@ pub(crate) fn read_command(words: &[&str]) -> Option<Command>
     ensures found { IfSome result (IsCommandOf (texts words.now)) }
     ensures none { IfNone result (IsNoCommand (texts words.now)) }
 {
-    let [command, suite, segments] = words else {
-        return None;
-    };
-    read_start(command.as_bytes(), suite.as_bytes(), segments.as_bytes())
+    match words {
+        [command] => read_run(command.as_bytes()),
+        [command, suite, segments] => {
+            read_new_store(command.as_bytes(), suite.as_bytes(), segments.as_bytes())
+        }
+        _ => None,
+    }
 }
 
-// Reads three words as the command `start`.
-fn read_start(command: &[u8], suite: &[u8], segments: &[u8]) -> Option<Command>
+// Reads a word as the command `run`.
+fn read_run(command: &[u8]) -> Option<Command>
+    ensures found { IfSome result (IsCommandOf (command.now ∷ [])) }
+    ensures none { IfNone result (IsNoCommand (command.now ∷ [])) }
+{
+    if command == b"run".as_slice() {
+        Some(Command::Run)
+    } else {
+        None
+    }
+}
+
+// Reads three words as a command that makes a store.
+fn read_new_store(command: &[u8], suite: &[u8], segments: &[u8]) -> Option<Command>
     ensures found { IfSome result (IsCommandOf (command.now ∷ suite.now ∷ segments.now ∷ [])) }
     ensures none { IfNone result (IsNoCommand (command.now ∷ suite.now ∷ segments.now ∷ [])) }
 {
-    if command != b"start".as_slice() {
-        return None;
-    }
     if suite != Suite::Plain.word().as_bytes() {
         return None;
     }
-    let segments = read_decimal(segments)?;
-    if segments < LEAST_SEGMENTS {
-        return None;
+    let segments = read_size(segments)?;
+    if command == b"start".as_slice() {
+        Some(Command::Start(segments))
+    } else if command == b"format".as_slice() {
+        Some(Command::Format(segments))
+    } else {
+        None
     }
-    if MOST_SEGMENTS < segments {
-        return None;
+}
+
+// Reads a word as a number of segments that a store may have.
+fn read_size(word: &[u8]) -> Option<u32>
+    ensures found { IfSome result (λ segments. IsSize segments × (word.now ≡ decimal segments)) }
+    ensures none { IfNone result ((segments : ℕ) → IsSize segments → word.now ≡ decimal segments → ⊥) }
+{
+    let segments = read_decimal(word)?;
+    if (LEAST_SEGMENTS..=MOST_SEGMENTS).contains(&segments) {
+        Some(segments as u32)
+    } else {
+        None
     }
-    Some(Command::Start(segments as u32))
+}
+
+#[cfg(test)]
+mod tests {
+    use super::*;
+    use std::test::Fail;
+
+    #[test]
+    fn words_are_one_command_or_none(rt: HostRuntime) -> Result<(), Fail> {
+        let table: [(&[&str], Option<Command>); 12] = [
+            (&["start", "plain", "16"], Some(Command::Start(16))),
+            (&["start", "plain", "4096"], Some(Command::Start(4096))),
+            (&["format", "plain", "17"], Some(Command::Format(17))),
+            (&["run"], Some(Command::Run)),
+            (&[], None),
+            (&["start", "plain"], None),
+            (&["start", "plain", "15"], None),
+            (&["format", "plain", "4097"], None),
+            (&["start", "plain", "016"], None),
+            (&["start", "aes128", "16"], None),
+            (&["run", "plain", "16"], None),
+            (&["start"], None),
+        ];
+        for (words, command) in table {
+            assert_eq!(rt; read_command(words), command);
+        }
+        Ok(())
+    }
 }

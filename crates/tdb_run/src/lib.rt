@@ -1,17 +1,15 @@
 //! Runs of the database: one call carries out a command over a device and an anchor.
 //!
-//! It stands on the log's formats, on `put` for each commit, and on the lines and replies of scripts. Its public call
-//! `run` carries the promises of the whole program: what each line is answered, what goes to the device, and why a run
-//! ends. A clause that is dropped here is promised by nothing else.
+//! It stands on the store of chunks and the opening of logs, and on the lines and replies of scripts. Its public call
+//! `run` carries the promises of the whole program: what state a run starts from, whatever the device shows, what each
+//! line is answered, what goes to the device, and why a run ends. A clause that is dropped here is promised by nothing
+//! else.
 #![tactic(auto)]
 
-mod batch;
+mod answering;
 mod command;
 mod ended;
-mod keys;
 mod last_line;
-mod log;
-mod records;
 #[cfg(test)]
 mod reference;
 #[cfg(test)]
@@ -20,6 +18,8 @@ mod reference_fields;
 mod reference_session;
 #[cfg(test)]
 mod reference_tests;
+#[cfg(test)]
+mod reopening_tests;
 mod running;
 mod script_lines;
 mod serving;
@@ -29,7 +29,8 @@ mod status;
 mod taking;
 #[cfg(test)]
 mod tests;
+mod transaction;
 
 pub use ended::Ended;
 pub use running::run;
-pub use status::Status;
+pub use status::{Finding, Refusal, Status, Success};

@@ -1,8 +1,7 @@
 // Runs against the reference: what each line is answered, and the history of the anchor that they leave.
-use crate::Status;
 use crate::reference::{Change, Commit, NoHistory, Store, history};
-use crate::reference_session::session;
-use crate::tests::{Outcome, REPLIES, SCRIPT, run_over_memory};
+use crate::reference_session::Stand;
+use crate::tests::{DONE, Outcome, REPLIES, SCRIPT, run_over_memory};
 use std::alloc::{AllocError, Global};
 use std::test::Fail;
 use tdb_platform::Platform;
@@ -61,14 +60,14 @@ fn commits_of_note(alloc: Global) -> Result<Vec<Commit>, AllocError> {
 fn a_note_is_in_the_history_of_its_run(rt: HostRuntime) -> Result<(), Fail> {
     let alloc = rt.alloc();
     let mut end = run_script(alloc, SCRIPT)?;
-    assert_eq!(rt; end.status, Status::Done);
+    assert_eq!(rt; end.status, DONE);
     let (count, mark) = end.platform.anchor()?;
     let pieces = cut(alloc, end.platform.bytes(), &PLACES)?;
     let told = history(alloc, &pieces, &STORE, count, &mark)?;
     assert!(rt; told == commits_of_note(alloc)?);
 
     let mut text = String::new(alloc);
-    for reply in &session(alloc, SCRIPT)? {
+    for reply in &Stand::new(alloc).session(alloc, SCRIPT)? {
         text.push_str(reply.text.as_str())?;
     }
     assert!(rt; text.as_bytes() == REPLIES);
@@ -81,7 +80,7 @@ fn expected(alloc: Global, script: &[u8]) -> Result<(String, Vec<Commit>), Fail>
     let mut text = String::new(alloc);
     let mut commits = vec![in alloc; opening(alloc)?]?;
     let mut count = 2u64;
-    for reply in session(alloc, script)? {
+    for reply in Stand::new(alloc).session(alloc, script)? {
         text.push_str(reply.text.as_str())?;
         if !reply.changes.is_empty() {
             count = count.checked_add(1).ok_or("too many commits")?;
@@ -95,16 +94,25 @@ fn expected(alloc: Global, script: &[u8]) -> Result<(String, Vec<Commit>), Fail>
     Ok((text, commits))
 }
 
-// The places of a run's pieces, in which a note of so many bytes is stored, if any.
+// The places of a run's pieces, one behind another: the table, and of each commit its records and its list.
 fn places(alloc: Global, commits: &[Commit]) -> Result<Vec<(usize, usize)>, Fail> {
-    let mut places = vec![in alloc; (0, 256), (256, 256), (262_144, 576), (262_720, 208)]?;
-    let note = commits.get(1).and_then(|commit| commit.changes.first());
-    if let Some(Change::Write(_, _, chunk)) = note {
-        let length = chunk.len().checked_add(48).ok_or("too long")?;
-        let behind = length.checked_add(262_928).ok_or("too long")?;
-        places.push((512, 256))?;
-        places.push((262_928, length))?;
-        places.push((behind, 136))?;
+    let mut places = vec![in alloc; (0, 256), (262_144, 576)]?;
+    let (mut text, mut place) = (256usize, 262_720usize);
+    for commit in commits {
+        places.push((text, 256))?;
+        text = text.checked_add(256).ok_or("too many texts")?;
+        let mut lengths = Vec::new(alloc);
+        for change in &commit.changes {
+            if let Change::Write(_, _, chunk) = change {
+                lengths.push(chunk.len().checked_add(48).ok_or("too long")?)?;
+            }
+        }
+        let entries = commit.changes.len().checked_mul(72).ok_or("too long")?;
+        lengths.push(entries.checked_add(64).ok_or("too long")?)?;
+        for length in lengths {
+            places.push((place, length))?;
+            place = place.checked_add(length).ok_or("too long")?;
+        }
     }
     Ok(places)
 }

@@ -1,19 +1,26 @@
 //! One run: a command from its words to its last line.
-ghost use Rattle.std.specs.Prelude.{◌≡◌, ◌≢◌, ◌⊎◌, ◌↔◌, ℕ, IsTrue};
-ghost use Rattle.tdb_run.specs.Acknowledged.{Acknowledged, Started};
-ghost use Rattle.tdb_run.specs.Command.{IsCommand, IsNoCommand, IsStart, texts};
-ghost use Rattle.tdb_run.specs.Intact.{StaysIntact};
+ghost use Rattle.std.specs.Prelude.{◌≡◌, ◌≢◌, ◌⊎◌, ◌↔◌, ◌≤◌, [], ℕ, IsTrue, false, true};
+ghost use Rattle.tdb_chunk.specs.Formatting.{plain_store};
+ghost use Rattle.tdb_overlay.specs.Found.{Store};
+ghost use Rattle.tdb_overlay.specs.Intact.{StaysIntact};
+ghost use Rattle.tdb_overlay.specs.SealedOnly.{OnlySealed};
+ghost use Rattle.tdb_run.specs.Command.{IsFormat, IsNoCommand, IsOfNewStore, IsRun, texts};
 ghost use Rattle.tdb_run.specs.OneLine.{Keeps};
-ghost use Rattle.tdb_run.specs.Replies.{Replies};
-ghost use Rattle.tdb_run.specs.SealedOnly.{OnlySealed};
+ghost use Rattle.tdb_run.specs.Begin.{IsNewStore, IsReopened};
+ghost use Rattle.tdb_run.specs.Opened.{GoesOn};
+ghost use Rattle.tdb_run.specs.Replies.{Conversation};
+ghost use Rattle.tdb_run.specs.Run.{IsStopWithoutScript, RunOutcome, RunOver, RunServed};
 ghost use Rattle.tdb_run.specs.Served.{IsCaused, IsUnwritten, Served};
-ghost use Rattle.tdb_run.specs.declared.status.Status.TheVariants.{Usage, AnchorCount, PlatformFault, SinkFault};
+ghost use Rattle.tdb_stream.specs.SourceContent.{SourceContent};
+ghost use Rattle.tdb_run.specs.declared.status.Status.TheVariants.{Done, Usage, AnchorCount, PlatformFault, SinkFault};
+ghost use Rattle.tdb_run.specs.declared.status.Success.TheVariants.{Script, Formatted};
 
 use crate::command::{Command, read_command};
 use crate::ended::Ended;
 use crate::last_line::put_last_line;
-use crate::starting::start;
-use crate::status::Status;
+use crate::serving::serve;
+use crate::starting::{new_store, open_store};
+use crate::status::{Status, Success};
 use std::alloc::Global;
 use tdb_platform::Platform;
 use tdb_stream::{Archive, Sink, Source};
@@ -35,25 +42,31 @@ pub fn run<S: Source, K: Sink, P: Platform>(
     ensures usage_always { IsNoCommand (texts words.now) → (result.status ≡ Usage) ⊎ (result.status ≡ SinkFault) }
 
     // A store isn't made twice: that needs an anchor whose count is 0.
-    ensures already { result.status ≡ AnchorCount → IsCommand (texts words.now) × (IsTrue (P.outside platform).tells → (P.outside platform).anchor.0 ≢ 0) }
-    ensures already_always { IsCommand (texts words.now) → IsTrue (P.outside platform).tells → (P.outside platform).anchor.0 ≢ 0
-        → (result.status ≡ AnchorCount) ⊎ (result.status ≡ PlatformFault) ⊎ (result.status ≡ SinkFault) }
+    ensures already { result.status ≡ AnchorCount true → IsOfNewStore (texts words.now) × (IsTrue (P.outside platform).tells → (P.outside platform).anchor.0 ≢ 0) }
+    ensures already_always { IsOfNewStore (texts words.now) → IsTrue (P.outside platform).tells → (P.outside platform).anchor.0 ≢ 0
+        → (result.status ≡ AnchorCount true) ⊎ (result.status ≡ PlatformFault) ⊎ (result.status ≡ SinkFault) }
 
-    // The lines taken are answered as a session answers them, and the sink holds the replies and the last line.
-    ensures replies { Replies (S.content source.old) (S.content source.new) (K.content sink.old) (K.content sink.new) result.status }
+    // A new store without a script is what its words say.
+    ensures formatted { (segments : ℕ) → result.status ≡ Done (Formatted segments) → IsFormat (texts words.now) segments }
+    ensures scripts { result.status ≡ Done Script → (segments : ℕ) → IsFormat (texts words.now) segments → ⊥ }
+
+    // No store is opened where the anchor's count is 0.
+    ensures unformatted { result.status ≡ AnchorCount false → IsRun (texts words.now) × (IsTrue (P.outside platform).tells → (P.outside platform).anchor.0 ≡ 0) }
+    ensures unformatted_always { IsRun (texts words.now) → IsTrue (P.outside platform).tells → (P.outside platform).anchor.0 ≡ 0
+        → (result.status ≡ AnchorCount false) ⊎ (result.status ≡ PlatformFault) ⊎ (result.status ≡ SinkFault) }
+
+    // The sink holds the replies to the lines taken, and the last line. Whatever the device shows, the run starts from the
+    // state of the anchor's log, each reply is the session's, each commit whose reply was put stands in the log of the
+    // anchor and of each that a stop may leave, and damage is told only where the device has some.
+    ensures outcome { RunOutcome P.outside P.crash_states (texts words.now) secret.now (S.content source.old) (S.content source.new) (K.content sink.old) (K.content sink.new) platform result.platform result.status }
 
     // A run that is refused leaves the device, the anchor and the source as they were.
     ensures no_command { IsNoCommand (texts words.now) → (result.platform ≡ platform) × (source.new ≡ source.old) }
-    ensures already_untouched { IsCommand (texts words.now) → IsTrue (P.outside platform).tells → (P.outside platform).anchor.0 ≢ 0
+    ensures already_untouched { IsOfNewStore (texts words.now) → IsTrue (P.outside platform).tells → (P.outside platform).anchor.0 ≢ 0
         → IsUnwritten (P.outside platform) (P.outside result.platform) × (source.new ≡ source.old) }
 
-    // Each commit whose reply was put stands in the history of the anchor, and of each that a stop may leave; behind them
-    // at most the commit of the next line. Since the anchor was told, a stop leaves no other than with a first part of these.
-    ensures acknowledged { (segments : ℕ) → IsStart (texts words.now) segments
-        → Acknowledged P.outside P.crash_states (S.content source.old) (S.content source.new) (K.content sink.old) (K.content sink.new) (record { secret = secret.now; segments = segments }) platform result.platform result.status }
-
-    // What the history of the anchor rests on stands where it was written: nothing was written over it since.
-    ensures intact { (segments : ℕ) → IsStart (texts words.now) segments → StaysIntact (record { secret = secret.now; segments = segments }) (P.outside platform) (P.outside result.platform) }
+    // What the log of the anchor needs stands where it was written: nothing was written over it since.
+    ensures intact { (store : Store) → store.secret ≡ secret.now → StaysIntact store (P.outside platform) (P.outside result.platform) }
 
     // Whatever goes to the device is a sealed record in a segment, or a commit text with its tag in a slot.
     ensures sealed_only { OnlySealed secret.now (P.outside platform) (P.outside result.platform) }
@@ -65,7 +78,7 @@ pub fn run<S: Source, K: Sink, P: Platform>(
 {
     let mut platform = platform;
     let status = outcome(alloc, words, source, sink, &mut platform, secret);
-    let status = put_last_line(sink, status);
+    let status = put_last_line(alloc, sink, status);
     Ended {
         status,
         platform,
@@ -83,22 +96,110 @@ fn outcome<S: Source, K: Sink, P: Platform>(
     secret: &[u8; 32],
 ) -> Status
     ensures usage { (result ≡ Usage) ↔ IsNoCommand (texts words.now) }
-    ensures already { result ≡ AnchorCount → IsCommand (texts words.now) × (IsTrue (P.outside platform.old).tells → (P.outside platform.old).anchor.0 ≢ 0) }
-    ensures already_always { IsCommand (texts words.now) → IsTrue (P.outside platform.old).tells → (P.outside platform.old).anchor.0 ≢ 0
-        → (result ≡ AnchorCount) ⊎ (result ≡ PlatformFault) }
+    ensures already { result ≡ AnchorCount true → IsOfNewStore (texts words.now) × (IsTrue (P.outside platform.old).tells → (P.outside platform.old).anchor.0 ≢ 0) }
+    ensures already_always { IsOfNewStore (texts words.now) → IsTrue (P.outside platform.old).tells → (P.outside platform.old).anchor.0 ≢ 0
+        → (result ≡ AnchorCount true) ⊎ (result ≡ PlatformFault) }
+    ensures formatted { (segments : ℕ) → result ≡ Done (Formatted segments) → IsFormat (texts words.now) segments }
+    ensures scripts { result ≡ Done Script → (segments : ℕ) → IsFormat (texts words.now) segments → ⊥ }
+    ensures unformatted { result ≡ AnchorCount false → IsRun (texts words.now) × (IsTrue (P.outside platform.old).tells → (P.outside platform.old).anchor.0 ≡ 0) }
+    ensures unformatted_always { IsRun (texts words.now) → IsTrue (P.outside platform.old).tells → (P.outside platform.old).anchor.0 ≡ 0
+        → (result ≡ AnchorCount false) ⊎ (result ≡ PlatformFault) }
     ensures no_command { IsNoCommand (texts words.now) → (platform.new ≡ platform.old) × (source.new ≡ source.old) }
-    ensures already_untouched { IsCommand (texts words.now) → IsTrue (P.outside platform.old).tells → (P.outside platform.old).anchor.0 ≢ 0
+    ensures already_untouched { IsOfNewStore (texts words.now) → IsTrue (P.outside platform.old).tells → (P.outside platform.old).anchor.0 ≢ 0
         → IsUnwritten (P.outside platform.old) (P.outside platform.new) × (source.new ≡ source.old) }
-    ensures remembered { (segments : ℕ) → IsStart (texts words.now) segments
-        → Started P.outside P.crash_states (S.content source.old) (S.content source.new) (K.content sink.old) (K.content sink.new) (record { secret = secret.now; segments = segments }) platform.old platform.new result }
-    ensures intact { (segments : ℕ) → IsStart (texts words.now) segments → StaysIntact (record { secret = secret.now; segments = segments }) (P.outside platform.old) (P.outside platform.new) }
+    ensures served { RunServed P.outside P.crash_states (texts words.now) secret.now (S.content source.old) (S.content source.new) (K.content sink.old) (K.content sink.new) platform.old platform.new result }
+    ensures intact { (store : Store) → store.secret ≡ secret.now → StaysIntact store (P.outside platform.old) (P.outside platform.new) }
     ensures sealed { OnlySealed secret.now (P.outside platform.old) (P.outside platform.new) }
-    ensures served { Served (S.content source.old) (S.content source.new) (K.content sink.old) (K.content sink.new) result }
     ensures causes { IsCaused (S.content source.old) (S.content source.new) (K.content sink.old) (K.content sink.new) (P.outside platform.old) (P.outside platform.new) result }
     ensures keeps { Keeps (S.content source.old) (S.content source.new) (K.content sink.old) (K.content sink.new) (P.outside platform.old) (P.outside platform.new) }
 {
     match read_command(words) {
         None => Status::Usage,
         Some(Command::Start(segments)) => start(alloc, source, sink, platform, secret, segments),
+        Some(Command::Format(segments)) => format(alloc, platform, secret, segments),
+        Some(Command::Run) => reopen(alloc, source, sink, platform, secret),
+    }
+}
+
+// Makes a new store and answers a script.
+fn start<S: Source, K: Sink, P: Platform>(
+    alloc: Global,
+    source: &mut S,
+    sink: &mut K,
+    platform: &mut P,
+    secret: &[u8; 32],
+    segments: u32,
+) -> Status
+    requires least { 16 ≤ segments }
+    requires most { segments ≤ 4096 }
+    ensures served { (served : Served (S.content source.old) (S.content source.new) (K.content sink.old) (K.content sink.new) result)
+        × RunOver P.outside P.crash_states (plain_store secret.now segments) served.conversation (IsNewStore (plain_store secret.now segments)) platform.old platform.new result }
+    ensures words { result ≢ Usage }
+    ensures scripts { (n : ℕ) → result ≢ Done (Formatted n) }
+    ensures already { result ≡ AnchorCount true → IsTrue (P.outside platform.old).tells → (P.outside platform.old).anchor.0 ≢ 0 }
+    ensures never { result ≢ AnchorCount false }
+    ensures already_always { IsTrue (P.outside platform.old).tells → (P.outside platform.old).anchor.0 ≢ 0 → (result ≡ AnchorCount true) ⊎ (result ≡ PlatformFault) }
+    ensures already_untouched { IsTrue (P.outside platform.old).tells → (P.outside platform.old).anchor.0 ≢ 0 → IsUnwritten (P.outside platform.old) (P.outside platform.new) × (source.new ≡ source.old) }
+    ensures intact { (store : Store) → store.secret ≡ secret.now → StaysIntact store (P.outside platform.old) (P.outside platform.new) }
+    ensures sealed { OnlySealed secret.now (P.outside platform.old) (P.outside platform.new) }
+    ensures causes { IsCaused (S.content source.old) (S.content source.new) (K.content sink.old) (K.content sink.new) (P.outside platform.old) (P.outside platform.new) result }
+    ensures keeps { Keeps (S.content source.old) (S.content source.new) (K.content sink.old) (K.content sink.new) (P.outside platform.old) (P.outside platform.new) }
+{
+    match new_store(alloc, platform, secret, segments) {
+        Ok(store) => {
+            let mut store = store;
+            serve(alloc, source, sink, platform, &mut store)
+        }
+        Err(status) => status,
+    }
+}
+
+// Makes a new store.
+fn format<P: Platform>(alloc: Global, platform: &mut P, secret: &[u8; 32], segments: u32) -> Status
+    requires least { 16 ≤ segments }
+    requires most { segments ≤ 4096 }
+    ensures ran { (came gone : SourceContent) (c : Conversation came gone) → c.lines ≡ [] → c.replies ≡ [] → RunOver P.outside P.crash_states (plain_store secret.now segments) c (IsNewStore (plain_store secret.now segments)) platform.old platform.new result }
+    ensures words { result ≢ Usage }
+    ensures formatted { (success : Success) → result ≡ Done success → success ≡ Formatted segments }
+    ensures already { result ≡ AnchorCount true → IsTrue (P.outside platform.old).tells → (P.outside platform.old).anchor.0 ≢ 0 }
+    ensures never { result ≢ AnchorCount false }
+    ensures already_always { IsTrue (P.outside platform.old).tells → (P.outside platform.old).anchor.0 ≢ 0 → (result ≡ AnchorCount true) ⊎ (result ≡ PlatformFault) }
+    ensures already_untouched { IsTrue (P.outside platform.old).tells → (P.outside platform.old).anchor.0 ≢ 0 → IsUnwritten (P.outside platform.old) (P.outside platform.new) }
+    ensures intact { (store : Store) → store.secret ≡ secret.now → StaysIntact store (P.outside platform.old) (P.outside platform.new) }
+    ensures goes_on { GoesOn (plain_store secret.now segments) (P.outside platform.old) (P.outside platform.new) }
+    ensures early { IsStopWithoutScript (P.outside platform.old) (P.outside platform.new) result }
+{
+    match new_store(alloc, platform, secret, segments) {
+        Ok(_) => Status::Done(Success::Formatted(segments)),
+        Err(status) => status,
+    }
+}
+
+// Opens the store that is there and answers a script.
+fn reopen<S: Source, K: Sink, P: Platform>(
+    alloc: Global,
+    source: &mut S,
+    sink: &mut K,
+    platform: &mut P,
+    secret: &[u8; 32],
+) -> Status
+    ensures served { (served : Served (S.content source.old) (S.content source.new) (K.content sink.old) (K.content sink.new) result)
+        × ((store : Store) → store.secret ≡ secret.now → RunOver P.outside P.crash_states store served.conversation (IsReopened store) platform.old platform.new result) }
+    ensures words { result ≢ Usage }
+    ensures scripts { (n : ℕ) → result ≢ Done (Formatted n) }
+    ensures unformatted { result ≡ AnchorCount false → IsTrue (P.outside platform.old).tells → (P.outside platform.old).anchor.0 ≡ 0 }
+    ensures never { result ≢ AnchorCount true }
+    ensures unformatted_always { IsTrue (P.outside platform.old).tells → (P.outside platform.old).anchor.0 ≡ 0 → (result ≡ AnchorCount false) ⊎ (result ≡ PlatformFault) }
+    ensures intact { (store : Store) → store.secret ≡ secret.now → StaysIntact store (P.outside platform.old) (P.outside platform.new) }
+    ensures sealed { OnlySealed secret.now (P.outside platform.old) (P.outside platform.new) }
+    ensures causes { IsCaused (S.content source.old) (S.content source.new) (K.content sink.old) (K.content sink.new) (P.outside platform.old) (P.outside platform.new) result }
+    ensures keeps { Keeps (S.content source.old) (S.content source.new) (K.content sink.old) (K.content sink.new) (P.outside platform.old) (P.outside platform.new) }
+{
+    match open_store(alloc, platform, secret) {
+        Ok(store) => {
+            let mut store = store;
+            serve(alloc, source, sink, platform, &mut store)
+        }
+        Err(status) => status,
     }
 }

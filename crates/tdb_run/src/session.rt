@@ -1,121 +1,104 @@
-//! Where a script stands, and what a line is answered.
-ghost use Rattle.std.specs.Prelude.{◌≡◌, ◌<◌, ℕ, IfOk, List, length, None};
-ghost use Rattle.tdb_script.specs.LineSpelling.{IsLineValue, begin, new_note, commit};
-ghost use Rattle.tdb_script.specs.LineValue.{value_of_line};
-ghost use Rattle.tdb_script.specs.NoteText.{IsNoteText};
-ghost use Rattle.tdb_run.specs.Session.{answer, Answers};
+//! Where a script stands beside the store: its transaction, and the ids that it draws.
+ghost use Rattle.std.specs.Prelude.{◌≤◌};
+ghost use Rattle.tdb_run.specs.Drawn.{made_in};
 
+use crate::transaction::{Transaction, new_note};
 use std::alloc::{AllocError, Global};
-use std::mem;
-use tdb_base::{Bytes, Rank, TxId};
-use tdb_script::{Line, Note, Reply, read_line};
+use tdb_base::{PartId, Rank, TxId};
+use tdb_script::Reply;
 
-// The rank of the one note that a script makes.
-const NOTE_RANK: Rank = Rank(1);
+/// The partition whose chunks are the notes of scripts.
+pub(crate) const NOTES_PART: PartId = PartId(1);
 
-/// Where a script stands.
+/// How many ids there are: they are 0 to 262,143.
+const ID_LIMIT: u32 = 262_144;
+
+/// The transaction of a script, if one is open, and the next id to be drawn.
 #[derive(Drop)]
-pub(crate) enum Session {
-    /// Before its transaction.
-    Fresh,
-    /// In its transaction, with the note that it has made.
-    Open(TxId, Option<Note>),
-    /// After its transaction.
-    Closed,
-}
-
-/// The reply to a line, and the note that has to be committed before it is put.
-#[derive(Drop)]
-pub(crate) struct Answered {
-    pub reply: Reply,
-    pub note: Option<Note>,
-}
-
-impl Answered {
-    // A reply that needs no commit.
-    fn at_once(reply: Reply) -> Answered
-        ensures reply { result.reply ≡ reply }
-        ensures note { result.note ≡ None }
-    {
-        Answered { reply, note: None }
-    }
+pub(crate) struct Session {
+    pub next_id: u32,
+    pub transaction: Option<Transaction>,
+    // each of its notes has an id of its own
+    ghost drawn: { made_in transaction ≤ next_id },
+    ghost few: { made_in transaction ≤ 262144 },
 }
 
 impl Session {
-    ghost use Rattle.tdb_run.specs.SessionState.{state_of, answer_of};
+    ghost use Rattle.std.specs.Prelude.{◌≡◌, ◌↔◌, ◌<◌, ℕ, IfOk, IfSome, IfNone, IsTrue, IsSome, None, max};
+    ghost use Rattle.std.specs.Option.{option_copied, option_map};
+    ghost use Rattle.tdb_script.specs.NoteText.{IsNoteText};
+    ghost use Rattle.tdb_run.specs.Script.{ScriptState, abort_answer, begin_answer, in_transaction, new_answer};
+    ghost use Rattle.tdb_run.specs.SessionState.{IsPureAnswer, IsSessionAt, transaction_in, numbered};
 
-    /// Answers a line's bytes, which are given without their line feed.
-    pub fn answer(&mut self, alloc: Global, bytes: &[u8]) -> Result<Answered, AllocError>
-        ensures { IfOk result (λ answered. Answers (state_of self.old) bytes.now (answer_of answered self.new)) }
+    /// No transaction, and this id is the next.
+    pub fn new(next_id: u32) -> Session
+        ensures next { result.next_id ≡ next_id }
+        ensures none { transaction_in result.transaction ≡ None }
     {
-        match read_line(bytes) {
-            Some(line) => self.answer_line(alloc, line),
-            None => Ok(Answered::at_once(Reply::RefusedUnbuilt)),
+        Session {
+            next_id,
+            transaction: None,
         }
     }
 
-    /// Answers a line that is too long to be read.
-    pub fn answer_too_long(&self) -> Answered
-        ensures { (bytes : List ℕ) → 4095 < length bytes → Answers (state_of self.now) bytes (answer_of result self.now) }
+    /// The open transaction, where it has this number.
+    pub fn open(&self, number: TxId) -> Option<&Transaction>
+        ensures { option_copied result ≡ numbered self.now.transaction number }
     {
-        Answered::at_once(Reply::RefusedUnbuilt)
-    }
-
-    fn answer_line(&mut self, alloc: Global, line: Line<'_>) -> Result<Answered, AllocError>
-        requires { IsLineValue (value_of_line line) }
-        ensures { IfOk result (λ answered. answer_of answered self.new ≡ answer (state_of self.old) (value_of_line line.entry)) }
-    {
-        match line {
-            Line::Quit => Ok(Answered::at_once(Reply::Bye)),
-            Line::Begin(number) => Ok(self.begin(number)),
-            Line::New(number, text) => self.make_note(alloc, number, text),
-            Line::Commit(number) => Ok(self.commit(number)),
+        match &self.transaction {
+            Some(open) if open.number == number => Some(open),
+            _ => None,
         }
     }
 
-    fn begin(&mut self, number: TxId) -> Answered
-        ensures { answer_of result self.new ≡ answer (state_of self.old) (begin number.0) }
+    /// Opens a transaction, where none is open.
+    pub fn begin(&mut self, alloc: Global, number: TxId) -> Reply
+        ensures { (state : ScriptState) → IsSessionAt self.old state → IsPureAnswer state self.new result (begin_answer state number.0 state.transaction) }
     {
-        match self {
-            Session::Fresh => {
-                *self = Session::Open(number, None);
-                Answered::at_once(Reply::Begun(number))
+        match &self.transaction {
+            None => {
+                let notes = Vec::new(alloc);
+                self.transaction = Some(Transaction { number, notes });
+                Reply::Begun(number)
             }
-            _ => Answered::at_once(Reply::RefusedUnbuilt),
+            Some(open) if open.number == number => Reply::RefusedOpen(number),
+            Some(_) => Reply::RefusedUnbuilt,
         }
     }
 
-    fn make_note(
+    /// Makes a note in the transaction, under the next id.
+    pub fn make_note(
         &mut self,
         alloc: Global,
         number: TxId,
         text: &[u8],
-    ) -> Result<Answered, AllocError>
+    ) -> Result<Reply, AllocError>
         requires { IsNoteText text.now }
-        ensures { IfOk result (λ answered. answer_of answered self.new ≡ answer (state_of self.old) (new_note number.0 text.now)) }
+        ensures { IfOk result (λ reply. (state : ScriptState) → IsSessionAt self.old state → IsPureAnswer state self.new reply (in_transaction state number.0 (new_answer state text.now) state.transaction)) }
     {
-        match self {
-            Session::Open(open, None) if *open == number => {
-                let bytes = Bytes::from(Vec::from_slice(alloc, text)?);
-                *self = Session::Open(number, Note::new(bytes));
-                Ok(Answered::at_once(Reply::Made(number, NOTE_RANK)))
-            }
-            _ => Ok(Answered::at_once(Reply::RefusedUnbuilt)),
+        if self.open(number).is_none() {
+            return Ok(Reply::RefusedNoTransaction(number));
         }
+        if self.next_id >= ID_LIMIT {
+            return Ok(Reply::RefusedIds(NOTES_PART));
+        }
+        let id = Rank(self.next_id);
+        let note = new_note(alloc, text)?;
+        if let Some(open) = &mut self.transaction {
+            open.add(id, note)?;
+        }
+        self.next_id += 1;
+        Ok(Reply::Made(number, id))
     }
 
-    fn commit(&mut self, number: TxId) -> Answered
-        ensures { answer_of result self.new ≡ answer (state_of self.old) (commit number.0) }
+    /// Gives the transaction up.
+    pub fn abort(&mut self, number: TxId) -> Reply
+        ensures { (state : ScriptState) → IsSessionAt self.old state → IsPureAnswer state self.new result (in_transaction state number.0 (abort_answer state) state.transaction) }
     {
-        match mem::replace(self, Session::Closed) {
-            Session::Open(open, note) if open == number => Answered {
-                reply: Reply::Committed(number),
-                note,
-            },
-            other => {
-                *self = other;
-                Answered::at_once(Reply::RefusedUnbuilt)
-            }
+        if self.open(number).is_none() {
+            return Reply::RefusedNoTransaction(number);
         }
+        self.transaction = None;
+        Reply::Aborted(number)
     }
 }

@@ -1,9 +1,12 @@
 // Whole runs in memory, against the bytes that an independent model of the formats gives for them.
-use crate::{Status, run};
+use crate::{Status, Success, run};
 use std::alloc::Global;
 use std::test::Fail;
 use tdb_platform::{MemoryPlatform, Platform};
 use tdb_stream::{MemorySink, MemorySource};
+
+/// A script was carried out.
+pub(crate) const DONE: Status = Status::Done(Success::Script);
 
 pub(crate) const SCRIPT: &[u8] = b"begin 1\nnew 1 note hello\ncommit 1\nquit\n";
 
@@ -92,6 +95,31 @@ pub(crate) fn run_over_memory(
     let [platform, source, sink] = failing;
     let (image, fail) = (Vec::new(alloc), platform.to_vec(alloc)?);
     let platform = MemoryPlatform::new(alloc, image, 0, [0; 32], fail, None)?;
+    run_with(alloc, words, script, platform, [source, sink])
+}
+
+/// Runs words and a script over a device with these bytes and an anchor.
+pub(crate) fn run_on(
+    alloc: Global,
+    words: &[&str],
+    script: &[u8],
+    image: &[u8],
+    anchor: (u64, [u8; 32]),
+) -> Result<Outcome, Fail> {
+    let (image, fail) = (image.to_vec(alloc)?, Vec::new(alloc));
+    let platform = MemoryPlatform::new(alloc, image, anchor.0, anchor.1, fail, None)?;
+    run_with(alloc, words, script, platform, [&[], &[]])
+}
+
+/// Runs words and a script over a platform, where these calls of the source and of the sink fail.
+pub(crate) fn run_with(
+    alloc: Global,
+    words: &[&str],
+    script: &[u8],
+    platform: MemoryPlatform,
+    failing: [&[u64]; 2],
+) -> Result<Outcome, Fail> {
+    let [source, sink] = failing;
     let mut source = MemorySource::new(script.to_vec(alloc)?, source.to_vec(alloc)?);
     let mut sink = MemorySink::new(alloc, sink.to_vec(alloc)?);
     let archives = Vec::new(alloc);
@@ -115,7 +143,7 @@ pub(crate) fn run_over_memory(
 fn a_note_is_committed_on_a_fresh_device(rt: HostRuntime) -> Result<(), Fail> {
     let words = ["start", "plain", "16"];
     let mut end = run_over_memory(rt.alloc(), &words, SCRIPT, [&[], &[], &[]])?;
-    assert_eq!(rt; end.status, Status::Done);
+    assert_eq!(rt; end.status, DONE);
     assert_eq!(rt; end.status.code(), 0);
     assert!(rt; end.sink.bytes() == REPLIES);
     let (count, mark) = end.platform.anchor()?;
@@ -162,14 +190,18 @@ fn each_failing_call_ends_a_run_by_its_status(rt: HostRuntime) -> Result<(), Fai
         ] {
             let end = run_over_memory(alloc, &words, SCRIPT, failing)?;
             if number > calls {
-                assert_eq!(rt; end.status, Status::Done, "call {number}");
+                assert_eq!(rt; end.status, DONE, "call {number}");
                 assert!(rt; end.sink.bytes() == REPLIES, "call {number}");
                 continue;
             }
             assert_eq!(rt; end.status, status, "call {number}");
             let held = end.sink.bytes();
-            let whole = held.len() - end.status.line().len().min(held.len());
-            assert!(rt; REPLIES.starts_with(&held[..whole]), "call {number}");
+            let replies = held.strip_suffix(b"platform fault\n".as_slice());
+            let replies = replies.or(held.strip_suffix(b"source fault\n".as_slice()));
+            assert!(rt;
+                REPLIES.starts_with(replies.unwrap_or(held)),
+                "call {number}"
+            );
         }
     }
     Ok(())
@@ -193,45 +225,51 @@ fn a_store_has_as_many_segments_as_the_words_say(rt: HostRuntime) -> Result<(), 
 #[test]
 fn words_and_scripts_end_by_their_status_and_line(rt: HostRuntime) -> Result<(), Fail> {
     let alloc = rt.alloc();
-    let table: [(&[&str], &[u8], Status, &[u8]); 14] = [
+    let formatted = Status::Done(Success::Formatted(16));
+    let unformatted = Status::AnchorCount { formatted: false };
+    let table: [(&[&str], &[u8], Status, &[u8]); 18] = [
         (&[], b"", Status::Usage, b"usage\n"),
         (&["start", "plain"], b"", Status::Usage, b"usage\n"),
         (&["start", "plain", "15"], b"", Status::Usage, b"usage\n"),
         (&["start", "plain", "016"], b"", Status::Usage, b"usage\n"),
         (&["start", "plain", "4097"], b"", Status::Usage, b"usage\n"),
         (&["start", "aes128", "16"], b"", Status::Usage, b"usage\n"),
-        (&["run"], b"", Status::Usage, b"usage\n"),
+        (&["format", "plain"], b"", Status::Usage, b"usage\n"),
+        (&["format", "plain", "4097"], b"", Status::Usage, b"usage\n"),
+        (&["run", "16"], b"", Status::Usage, b"usage\n"),
+        (&["clean"], b"", Status::Usage, b"usage\n"),
+        (&["run"], b"quit\n", unformatted, b"unformatted\n"),
+        (
+            &["format", "plain", "16"],
+            b"quit\n",
+            formatted,
+            b"formatted plain 16\n",
+        ),
         (&["start", "plain", "4096"], b"", Status::End, b"end\n"),
         (&["start", "plain", "16"], b"quit", Status::End, b"end\n"),
         (
             &["start", "plain", "16"],
             b"\nquit\nquit\n",
-            Status::Done,
+            DONE,
             b"refused unbuilt\nbye\n",
         ),
         (
             &["start", "plain", "16"],
             b"begin 1\0\nquit\n",
-            Status::Done,
+            DONE,
             b"refused unbuilt\nbye\n",
         ),
         (
             &["start", "plain", "16"],
-            b"commit 1\nbegin 2\nbegin 2\nnew 1 note a\ncommit 2\nbegin 3\nquit\n",
-            Status::Done,
-            b"refused unbuilt\nbegun 2\nrefused unbuilt\nrefused unbuilt\ncommitted 2\nrefused unbuilt\nbye\n",
+            b"commit 1\nbegin 2\nbegin 2\nbegin 3\nnew 1 note a\ncommit 2\nbegin 3\nquit\n",
+            DONE,
+            b"refused no transaction 1\nbegun 2\nrefused open 2\nrefused unbuilt\nrefused no transaction 1\ncommitted 2\nbegun 3\nbye\n",
         ),
         (
             &["start", "plain", "16"],
-            b"begin 1\nnew 1 note a\nnew 1 note b\nquit\n",
-            Status::Done,
-            b"begun 1\nmade 1 1\nrefused unbuilt\nbye\n",
-        ),
-        (
-            &["start", "plain", "16"],
-            b"get 1 1\nquit\n",
-            Status::Done,
-            b"refused unbuilt\nbye\n",
+            b"begin 1\nget 1 1\nnew 1 note a\nget 1 1\nabort 1\nabort 1\nbegin 1\nget 1 1\nnew 1 note b\ncommit 1\nget 1 2\nbegin 4\nget 4 2\nquit\n",
+            DONE,
+            b"begun 1\nrefused no object 1 1\nmade 1 1\ngot 1 1 note a\naborted 1\nrefused no transaction 1\nbegun 1\nrefused no object 1 1\nmade 1 2\ncommitted 1\nrefused no transaction 1\nbegun 4\ngot 4 2 note b\nbye\n",
         ),
     ];
     for (words, script, status, output) in table {
@@ -248,32 +286,21 @@ fn a_long_line_is_answered_once_and_nothing_is_lost(rt: HostRuntime) -> Result<(
     let mut script = vec![in alloc; b'x'; 1_000_000]?;
     script.extend_from_slice(b"\nbegin 1\nquit\n")?;
     let end = run_over_memory(alloc, &["start", "plain", "16"], &script, [&[], &[], &[]])?;
-    assert_eq!(rt; end.status, Status::Done);
+    assert_eq!(rt; end.status, DONE);
     assert!(rt; end.sink.bytes() == b"refused unbuilt\nbegun 1\nbye\n".as_slice());
     Ok(())
 }
 
 #[test]
 fn a_store_is_not_made_twice(rt: HostRuntime) -> Result<(), Fail> {
-    let alloc = rt.alloc();
-    let (image, fail) = (Vec::new(alloc), Vec::new(alloc));
-    let platform = MemoryPlatform::new(alloc, image, 1, [7; 32], fail, None)?;
-    let mut source = MemorySource::new(SCRIPT.to_vec(alloc)?, Vec::new(alloc));
-    let mut sink = MemorySink::new(alloc, Vec::new(alloc));
-    let words = ["start", "plain", "16"];
-    let archives = Vec::new(alloc);
-    let ended = run(
-        alloc,
-        &words,
-        &mut source,
-        &mut sink,
-        platform,
-        &[0; 32],
-        archives,
-    );
-    assert_eq!(rt; ended.status, Status::AnchorCount);
-    assert_eq!(rt; ended.status.code(), 3);
-    assert!(rt; sink.bytes() == b"already formatted\n".as_slice());
-    assert!(rt; ended.platform.bytes().is_empty());
+    let already = Status::AnchorCount { formatted: true };
+    for command in ["start", "format"] {
+        let words = [command, "plain", "16"];
+        let end = run_on(rt.alloc(), &words, SCRIPT, &[], (1, [7; 32]))?;
+        assert_eq!(rt; end.status, already);
+        assert_eq!(rt; end.status.code(), 3);
+        assert!(rt; end.sink.bytes() == b"already formatted\n".as_slice());
+        assert!(rt; end.platform.bytes().is_empty());
+    }
     Ok(())
 }

@@ -1,52 +1,61 @@
-use Rattle.std.proofs.Common.{◌≡◌, ℕ, List, [], ◌∷◌, sym, ◌∙◌, subst, arith}
-use Rattle.std.proofs.lemmas.Fmt.{decimal_injective}
-use borrow.Enum.Total.{values_d}
-use Rattle.tdb_run.specs.contracts.command.Command.{enum}
-use Rattle.tdb_run.specs.declared.command.Command.{Command}
-use Rattle.tdb_run.specs.declared.command.Command.TheVariants.{Start}
-use Rattle.tdb_run.specs.Command.{IsStart, texts}
-use Rattle.tdb_run.specs.Intact.{StaysIntact}
+use Rattle.std.proofs.Common.{ℕ, inl, inr, refl, subst}
+use Rattle.tdb_chunk.specs.Formatting.{plain_store}
+use Rattle.tdb_run.specs.Begin.{IsNewStore}
+use Rattle.tdb_run.specs.Command.{IsFormat, IsRun, IsStart, texts}
 use Rattle.tdb_run.specs.CommandValue.{IsCommandOf}
-use Rattle.tdb_run.specs.Acknowledged.{Started}
-use Rattle.tdb_run.proofs.Conversing.{served_none}
+use Rattle.tdb_run.specs.Run.{RunOver}
+use Rattle.tdb_run.specs.declared.status.Status.TheVariants.{Usage}
+use Rattle.tdb_run.proofs.Early.{no_conversation, served_none, stop_at_once}
+use Rattle.tdb_run.proofs.Words.{format_not_run, one_format, one_start, start_not_format, start_not_run}
 use Rattle.tdb_run.proofs.running.outcome.Goals as goal
 
 pub returns-in-None-clause-served : goal.returns-in-None-clause-served
-returns-in-None-clause-served g c = served_none _ _ _ tt
+returns-in-None-clause-served g c = record {
+  served = served_none (g.S.Source.content c.args.source.now) (g.K.Sink.content c.args.sink.now) Usage tt;
+  start = λ segments is. absurd (c.in-None.ensures.none (inl (segments, is)));
+  format = λ segments is. absurd (c.in-None.ensures.none (inr (inl (segments, is))));
+  reopened = λ is. absurd (c.in-None.ensures.none (inr (inr is)));
+}
 
-pub returns-in-None-clause-remembered : goal.returns-in-None-clause-remembered
-returns-in-None-clause-remembered g c segments start = absurd (c.in-None.ensures.none segments start)
-
-third : (a b c x y z : List ℕ) → a ∷ b ∷ c ∷ [] ≡ x ∷ y ∷ z ∷ [] → c ≡ z
-third a b c x y z h = cc
-
--- words say one number of segments
-one_start : (words : List (List ℕ)) (m n : ℕ) → IsStart words m → IsStart words n → m ≡ n
-one_start words m n a b =
-    decimal_injective m n (let most = a.most in omega (arith, most)) (let most = b.most in omega (arith, most)) (third _ _ _ _ _ _ (sym a.words_are ∙ b.words_are))
-
--- the number that a command says
-abbrev number_of : Command → ℕ
-number_of k = (values_d enum 0 (0, tt {0}) k).0
-
-as_start : (words : List (List ℕ)) (k : Command) → IsCommandOf words k → IsStart words (number_of k)
-as_start words (Start n) is = is
-
-pub returns-in-Some-Start-clause-remembered : goal.returns-in-Some-Start-clause-remembered
-returns-in-Some-Start-clause-remembered g c segments start =
+pub returns-in-Some-Start-clause-served : goal.returns-in-Some-Start-clause-served
+returns-in-Some-Start-clause-served g c =
     let words = texts c.args.words.now in
-    let said = c.in-Some-Start.field-0 in
-    subst
-    (λ (n : ℕ). Started g.P.Platform.outside g.P.Platform.crash_states (g.S.Source.content c.args.source.now) (g.S.Source.content c.start.new.source) (g.K.Sink.content c.args.sink.now) (g.K.Sink.content c.start.new.sink)
-    (record { secret = c.args.secret.now; segments = n }) c.args.platform.now c.start.new.platform c.start.result)
-    (one_start words (number_of said) segments (as_start words said c.in-Some-Start.ensures.found) start) c.start.ensures.remembered
+    let said : IsStart words c.in-Some-Start.segments = subst (IsCommandOf words) c.in-Some-Start.field-0-is c.in-Some-Start.ensures.found in
+    let served = c.start.ensures.served in
+    record {
+      served = served.0;
+      start = λ segments is.
+          subst
+          (λ (n : ℕ). RunOver g.P.Platform.outside g.P.Platform.crash_states (plain_store c.args.secret.now n) served.0.conversation (IsNewStore (plain_store c.args.secret.now n)) c.args.platform.now c.start.new.platform c.start.result)
+          (one_start words c.in-Some-Start.segments segments said is) served.1;
+      format = λ segments is. absurd (start_not_format words c.in-Some-Start.segments segments said is);
+      reopened = λ is. absurd (start_not_run words c.in-Some-Start.segments said is);
+    }
 
-pub returns-in-None-clause-intact : goal.returns-in-None-clause-intact
-returns-in-None-clause-intact g c segments start = absurd (c.in-None.ensures.none segments start)
-
-pub returns-in-Some-Start-clause-intact : goal.returns-in-Some-Start-clause-intact
-returns-in-Some-Start-clause-intact g c segments start =
+pub returns-in-Some-Format-clause-served : goal.returns-in-Some-Format-clause-served
+returns-in-Some-Format-clause-served g c =
     let words = texts c.args.words.now in
-    let said = c.in-Some-Start.field-0 in
-    subst (λ (n : ℕ). StaysIntact (record { secret = c.args.secret.now; segments = n }) (g.P.Platform.outside c.args.platform.now) (g.P.Platform.outside c.start.new.platform))
-    (one_start words (number_of said) segments (as_start words said c.in-Some-Start.ensures.found) start) c.start.ensures.intact
+    let said : IsFormat words c.in-Some-Format.segments = subst (IsCommandOf words) c.in-Some-Format.field-0-is c.in-Some-Format.ensures.found in
+    let came = g.S.Source.content c.args.source.now in
+    let old = c.args.platform.now in
+    let new = c.format.new.platform in
+    record {
+      served = served_none came (g.K.Sink.content c.args.sink.now) c.format.result (stop_at_once (g.P.Platform.outside old) (g.P.Platform.outside new) c.format.result c.format.ensures.early);
+      start = λ segments is. absurd (start_not_format words segments c.in-Some-Format.segments is said);
+      format = λ segments is.
+          subst
+          (λ (n : ℕ). RunOver g.P.Platform.outside g.P.Platform.crash_states (plain_store c.args.secret.now n) (no_conversation came) (IsNewStore (plain_store c.args.secret.now n)) old new c.format.result)
+          (one_format words c.in-Some-Format.segments segments said is) (c.format.ensures.ran came came (no_conversation came) refl refl);
+      reopened = λ is. absurd (format_not_run words c.in-Some-Format.segments said is);
+    }
+
+pub returns-in-Some-Run-clause-served : goal.returns-in-Some-Run-clause-served
+returns-in-Some-Run-clause-served g c =
+    let words = texts c.args.words.now in
+    let said : IsRun words = subst (IsCommandOf words) c.in-Some-Run.field-0-is c.in-Some-Run.ensures.found in
+    record {
+      served = c.reopen.ensures.served.0;
+      start = λ segments is. absurd (start_not_run words segments is said);
+      format = λ segments is. absurd (format_not_run words segments is said);
+      reopened = λ is. c.reopen.ensures.served.1;
+    }

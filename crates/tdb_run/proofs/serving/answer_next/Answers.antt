@@ -1,12 +1,10 @@
-use Rattle.tdb_run.proofs.Conversing.{ended_unanswered}
+use Rattle.std.proofs.Common.{inl, refl}
+use Rattle.tdb_chunk.specs.Known.{store_of}
+use Rattle.tdb_run.proofs.GoingOn.{goes_on_itself}
 use Rattle.tdb_run.proofs.serving.answer_next.Goals as goal
 
-pub returns-in-Ok-End-clause-stopped : goal.returns-in-Ok-End-clause-stopped
-returns-in-Ok-End-clause-stopped g c =
-    let end = c.next.ensures.end (cc) in
-    (ended_unanswered _ _ _ _ end.0, (end.0.no_line_feed, end.1))
-
 pub returns-in-Err-clause-stopped : goal.returns-in-Err-clause-stopped
-returns-in-Err-clause-stopped g c =
-    let failed = c.in-Err.ensures.failed in
-    (ended_unanswered _ _ _ _ failed.0, (failed.0.no_line_feed, failed.1))
+returns-in-Err-clause-stopped g c = let stopped = c.in-Err.ensures.stopped in inl (record { left = stopped.0; why = stopped.1; platform = refl })
+
+pub returns-in-Err-clause-goes_on : goal.returns-in-Err-clause-goes_on
+returns-in-Err-clause-goes_on g c = goes_on_itself (store_of c.args.store.now) (g.P.Platform.outside c.args.platform.now)

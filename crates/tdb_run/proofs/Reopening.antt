@@ -1,0 +1,96 @@
+-- A store whose log was read and recovered, and then its partitions.
+use Rattle.std.proofs.Common.{◌≡◌, ⊎_elim, ℕ, List, IsTrue, refl, sym, ◌∙◌, ap, subst, arith}
+use Rattle.tdb_base.specs.declared.piece.Damage.{Damage}
+use Rattle.tdb_base.specs.declared.piece.Place.{Place}
+use Rattle.tdb_base.specs.declared.suite.Suite.{Suite}
+use Rattle.tdb_base.specs.declared.suite.Suite.TheVariants.{Plain}
+use Rattle.tdb_base.specs.Trace.{IsNumbered}
+use Rattle.tdb_mark.specs.CommitText.{commit_key_of, commit_of}
+use Rattle.tdb_mark.proofs.UnforgedLemmas.{IsUnforged-before}
+use Rattle.tdb_model.specs.Apply.{History}
+use Rattle.tdb_platform.specs.Outside.{Outside}
+use Rattle.tdb_platform.specs.CrashStates.{CrashStates}
+use Rattle.tdb_chunk.specs.Known.{Knows, store_of}
+use Rattle.tdb_chunk.specs.declared.store.Store as memory
+use Rattle.tdb_overlay.specs.Found.{Store, in_trace}
+use Rattle.tdb_overlay.specs.Needed.{needed}
+use Rattle.tdb_overlay.specs.Log.{IsLog}
+use Rattle.tdb_overlay.specs.Reading.{OnlyReads}
+use Rattle.tdb_overlay.specs.Recovered.{IsRecovered}
+use Rattle.tdb_overlay.specs.Required.{IsRequired}
+use Rattle.tdb_overlay.specs.StoreState.{StoreState, first_state}
+use Rattle.tdb_recover.specs.Damaged.{IsDamageOf}
+use Rattle.tdb_recover.specs.Premises.{Premises}
+use Rattle.tdb_recover.specs.declared.error.OpenError.{OpenError}
+use Rattle.tdb_recover.specs.declared.error.OpenError.TheVariants as opening
+use Rattle.tdb_run.specs.Begin.{IsExplainedStop, OverStart}
+use Rattle.tdb_run.specs.Making.{IsStopOfOpening, status_after}
+use Rattle.tdb_run.specs.Opened.{GoesOn, IsSound}
+use Rattle.tdb_run.specs.ScriptServed.{OverLog}
+use Rattle.tdb_run.specs.declared.status.Finding.TheVariants.{Tampered, Form}
+use Rattle.tdb_run.specs.declared.status.Status.{Status}
+use Rattle.tdb_run.specs.declared.status.Status.TheVariants.{Done, Usage, AnchorCount, Damaged, PlatformFault, SourceFault, SinkFault, Memory, End, Refused}
+use Rattle.tdb_run.proofs.ReadingLines.{knows_still}
+use Rattle.tdb_run.proofs.RunBeginning.{log_read, reads_on}
+use Rattle.tdb_run.proofs.LogRanges.{log_plain, log_segments}
+use Rattle.tdb_run.proofs.RunRan.{Counts}
+
+-- A store that stands for the last state of a log is that of the log.
+opened_store : (kept : memory.Store) (store : Store) (o : Outside) (history : History) (from : StoreState) → kept.keys ≡ store.secret → IsRecovered (needed o.trace.written store o.anchor) store kept.log from → IsLog o.trace.written store o.anchor history from
+    → store_of kept ≡ store
+opened_store kept store o history from keys recovered is =
+    let segments : kept.log.segments.segments ≡ store.segments =
+    ap (λ (s : _). s.segments) recovered.space ∙ log_segments (in_trace o.trace.written) store (first_state store) is.chain history from refl is.tells in
+    let suite : store.suite ≡ Plain = ⊎_elim
+    (λ none. let zero : from.count ≡ 0 = ap (λ (s : StoreState). s.count) none in absurd (omega (arith, zero, recovered.count, kept.counts.some, kept.counts.base)))
+    (λ plain. plain) (log_plain (in_trace o.trace.written) store (first_state store) is.chain history from is.tells) in
+    ap (λ (k : List ℕ). let t : Store = record { secret = k; suite = Plain; segments = kept.log.segments.segments } in t) keys
+    ∙ ap (λ (n : ℕ). let t : Store = record { secret = store.secret; suite = Plain; segments = n } in t) segments
+    ∙ ap (λ (s : Suite). let t : Store = record { secret = store.secret; suite = s; segments = store.segments } in t) (sym suite)
+
+module _ {D : Type 0} (outside : D → Outside) (crash_states : D → CrashStates) (counts : Counts outside crash_states) (numbered : (p : D) → IsTrue (outside p).tells → IsNumbered (outside p).trace)
+    (secret : List ℕ) (old mid new : D) (reads : OnlyReads outside crash_states old mid) (kept : memory.Store) (goes : GoesOn (store_of kept) (outside mid) (outside new)) (keys : kept.keys ≡ secret)
+    (recovered : (store : Store) (history : History) (last : StoreState) → Premises (outside old) (outside mid) secret store history last → IsRecovered (needed (outside old).trace.written store (outside old).anchor) store kept.log last)
+    (store : Store) (same_secret : store.secret ≡ secret) where
+  known : IsTrue (outside old).tells → IsSound store (outside new) → (history : History) (from : StoreState) → IsLog (outside old).trace.written store (outside old).anchor history from
+      → (store_of kept ≡ store) × Knows (outside mid) kept from
+  known told sound history from is =
+      let on = reads_on outside crash_states counts old mid reads told in
+      let earlier = IsUnforged-before (outside mid).trace (outside new).trace (commit_of (commit_key_of store.secret)) (numbered mid on) (goes.grows on) sound in
+      let r = recovered store history from (record { tells = told; keys = same_secret; unforged = earlier; log = is }) in
+      let same = opened_store kept store (outside old) history from (keys ∙ sym same_secret) r is in (
+        same,
+        knows_still (outside old) (outside mid) kept from (reads.written told) (reads.anchor told)
+            (subst (λ (s : Store). IsRecovered (needed (outside old).trace.written s (outside old).anchor) s kept.log from) (sym same) r),
+      )
+
+  -- what holds of each log that the store stands for, holds of each that the anchor had
+  pub over_opened : (holds : Store → History → StoreState → Type 0) → OverLog outside mid new (store_of kept) kept (λ history from. holds (store_of kept) history from)
+      → OverStart outside old new store (λ history from. (store_of kept ≡ store) × holds store history from)
+  over_opened holds fact told sound history from is =
+      let k = known told sound history from is in
+      let same : OverLog outside mid new store kept (λ history from. holds store history from) = subst (λ (s : Store). OverLog outside mid new s kept (λ history from. holds s history from)) k.0 fact in
+      (k.0, same (reads_on outside crash_states counts old mid reads told) sound history from (log_read outside crash_states counts old mid reads store history from told is) k.1)
+
+-- why no store was opened, by what was read
+pub explained_error : (store : Store) (old new : Outside) (from : StoreState) (error : OpenError) → ((damage : Damage) → error ≡ opening.Tampered damage → IsDamageOf old new (IsRequired old.trace.written store old.anchor) damage)
+    → ((place : Place) → error ≡ opening.Form place → ⊥) → IsExplainedStop store old new from (status_after error)
+explained_error store old new from opening.Unformatted tampered form = tt
+explained_error store old new from (opening.Tampered damage) tampered form = tampered damage refl
+explained_error store old new from (opening.Form place) tampered form = λ user. form place refl
+explained_error store old new from opening.Fault tampered form = tt
+explained_error store old new from opening.Memory tampered form = tt
+
+-- why its partitions weren't there, since an earlier moment
+pub explained_earlier : (store : Store) (old mid new : Outside) (from : StoreState) (status : Status) → IsStopOfOpening mid new status → IsExplainedStop store mid new from status → IsExplainedStop store old new from status
+explained_earlier store old mid new from (Damaged (Form place)) why is = is
+explained_earlier store old mid new from (Damaged (Tampered damage)) why is = absurd why
+explained_earlier store old mid new from (Refused refusal) why is = is
+explained_earlier store old mid new from (AnchorCount formatted) why is = tt
+explained_earlier store old mid new from (Done success) why is = tt
+explained_earlier store old mid new from Usage why is = tt
+explained_earlier store old mid new from PlatformFault why is = tt
+explained_earlier store old mid new from SourceFault why is = tt
+explained_earlier store old mid new from SinkFault why is = tt
+explained_earlier store old mid new from Memory why is = tt
+explained_earlier store old mid new from End why is = tt

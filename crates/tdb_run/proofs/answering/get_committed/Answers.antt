@@ -1,0 +1,20 @@
+use Rattle.std.proofs.Common.{◌≡◌, ℕ, List, Option, Some, Err, inl, inr, refl, sym, ◌∙◌, ap, subst}
+use Rattle.tdb_model.specs.Lookup.{chunk_at}
+use Rattle.tdb_run.specs.Script.{IsChunkReply}
+use Rattle.tdb_run.proofs.DamagedObjects.{damaged_object}
+use Rattle.tdb_run.proofs.answering.get_committed.Goals as goal
+
+pub returns-in-Ok-chunk_reply-clause-answered : goal.returns-in-Ok-chunk_reply-clause-answered
+returns-in-Ok-chunk_reply-clause-answered g c told sound history from log knows =
+    let there : Some c.deref.result.now ≡ chunk_at from.chunks 1 c.args.id.0 = ap (λ (b : List ℕ). Some b) c.deref.ensures.value ∙ sym (c.in-Ok.ensures.chunk told sound from knows) in
+    inl (subst (λ (chunk : Option (List ℕ)). IsChunkReply c.args.number.0 c.args.id.0 chunk c.in-Ok-chunk_reply.reply) there c.in-Ok-chunk_reply.ensures)
+
+pub returns-in-Err-Tampered-clause-answered : goal.returns-in-Err-Tampered-clause-answered
+returns-in-Err-Tampered-clause-answered g c told sound history from log knows = inr (
+  damaged_object c.args.store.now (g.P.Platform.outside c.args.platform.now) (g.P.Platform.outside c.read.new.platform) from c.args.id.0 c.in-Err-Tampered.field-0-0
+      (c.in-Err-Tampered.ensures.tampered c.in-Err-Tampered.field-0-0 (ap Err c.in-Err-Tampered.field-0-is) told from knows),
+  refl,
+)
+
+pub returns-in-Err-Form-clause-answered : goal.returns-in-Err-Form-clause-answered
+returns-in-Err-Form-clause-answered g c told sound history from log knows = absurd (c.in-Err-Form.ensures.form told sound from knows c.in-Err-Form.field-0-0 (ap Err c.in-Err-Form.field-0-is))

@@ -1,0 +1,27 @@
+use Rattle.std.proofs.Common.{ℕ, sym}
+use Rattle.std.proofs.lemmas.Result.{IfOk-weaker}
+use Rattle.tdb_overlay.proofs.ReadingLaws.{reads_nothing}
+use Rattle.tdb_chunk.specs.Known.{store_of}
+use Rattle.tdb_run.specs.Session.{IsDamagedObject}
+use Rattle.tdb_run.proofs.Transactions.{chunk_answer}
+use Rattle.tdb_run.proofs.answering.get_note.Goals as goal
+
+pub returns-in_default-clause-reads : goal.returns-in_default-clause-reads
+returns-in_default-clause-reads g c = reads_nothing g.P.Platform.outside g.P.Platform.crash_states g.met.P.Platform.counts c.args.platform.now
+
+pub returns-in-Ok-clause-reads : goal.returns-in-Ok-clause-reads
+returns-in-Ok-clause-reads g c = reads_nothing g.P.Platform.outside g.P.Platform.crash_states g.met.P.Platform.counts c.args.platform.now
+
+pub returns-in-Err-clause-reads : goal.returns-in-Err-clause-reads
+returns-in-Err-clause-reads g c = reads_nothing g.P.Platform.outside g.P.Platform.crash_states g.met.P.Platform.counts c.args.platform.now
+
+pub returns-clause-answered : goal.returns-clause-answered
+returns-clause-answered g c =
+    let store = c.args.store.now in
+    let old = g.P.Platform.outside c.args.platform.now in
+    let new = g.P.Platform.outside c.get_committed.new.platform in
+    IfOk-weaker c.get_committed.result _ _
+    (λ reply answered told sound history from log at state same in_session.
+    let damaged : ℕ → Type 0 = λ id. IsDamagedObject (store_of store) old new from.chunks id in
+    chunk_answer c.args.session.now c.args.number c.in-Some.open.now (sym c.in-Some.ensures) state in_session damaged from c.args.id reply same (sym c.in_default-own.ensures) (answered told sound history from log at))
+    c.get_committed.ensures.answered

@@ -1,0 +1,89 @@
+use Rattle.std.proofs.Common.{Err, IfOk, IfErr, List, ℕ, ap, ◌∙◌, subst}
+use Rattle.tdb_chunk.specs.Formatting.{plain_store}
+use Rattle.tdb_chunk.specs.declared.store.Store as memory
+use Rattle.tdb_overlay.specs.Found.{Store}
+use Rattle.tdb_overlay.specs.Intact.{StaysIntact}
+use Rattle.tdb_run.specs.Begin.{HasBegun, HasNotBegun, IsExplainedStop, IsNewStore, OverStart}
+use Rattle.tdb_run.specs.Making.{HasMade, HasNotMade, IsStopOfMaking}
+use Rattle.tdb_run.specs.declared.status.Status.{Status}
+use Rattle.tdb_run.proofs.RunBeginning.{anchor_reads, begun_over, if_err, if_ok, not_begun_over, not_begun_read, reads_goes, whole_after}
+use Rattle.tdb_run.proofs.Making.{explained_making}
+use Rattle.tdb_run.proofs.starting.new_store.Goals as goal
+
+pub returns-in-Err-clause-not_begun : goal.returns-in-Err-clause-not_begun
+returns-in-Err-clause-not_begun g c told sound history from is =
+    let outside = g.P.Platform.outside in
+    let crash_states = g.P.Platform.crash_states in
+    let counts = g.met.P.Platform.counts in
+    let store : Store = plain_store c.args.secret.now c.args.segments in
+    let a = c.anchor.ensures in
+    let reads = anchor_reads outside crash_states counts c.args.platform.now c.anchor.new.self c.anchor.result a.trace a.anchor a.image a.now a.time a.told in
+    (not_begun_read outside crash_states counts c.args.platform.now c.anchor.new.self reads store (IsNewStore store) told sound history from is, tt)
+
+pub returns-in-Err-clause-goes_on : goal.returns-in-Err-clause-goes_on
+returns-in-Err-clause-goes_on g c =
+    let a = c.anchor.ensures in
+    let reads = anchor_reads g.P.Platform.outside g.P.Platform.crash_states g.met.P.Platform.counts c.args.platform.now c.anchor.new.self c.anchor.result a.trace a.anchor a.image a.now a.time a.told in
+    reads_goes g.P.Platform.outside g.P.Platform.crash_states g.met.P.Platform.counts c.args.platform.now c.anchor.new.self reads (plain_store c.args.secret.now c.args.segments)
+
+pub returns-in-Ok-eq0-default-clause-begun : goal.returns-in-Ok-eq0-default-clause-begun
+returns-in-Ok-eq0-default-clause-begun g c =
+    let outside = g.P.Platform.outside in
+    let crash_states = g.P.Platform.crash_states in
+    let counts = g.met.P.Platform.counts in
+    let store : Store = plain_store c.args.secret.now c.args.segments in
+    let old = c.args.platform.now in
+    let mid = c.anchor.new.self in
+    let new = c.make_store.new.platform in
+    let a = c.anchor.ensures in
+    let reads = anchor_reads outside crash_states counts old mid c.anchor.result a.trace a.anchor a.image a.now a.time a.told in
+    let made = subst (λ (k : List ℕ). IfOk c.make_store.result (λ (s : memory.Store). OverStart outside mid new (plain_store k c.args.segments)
+    (λ history from. HasMade outside crash_states (plain_store k c.args.segments) (IsNewStore (plain_store k c.args.segments)) mid new history from s))) c.new.ensures c.make_store.ensures.made in
+    if_ok (λ (s : memory.Store). OverStart outside mid new store (λ history from. HasMade outside crash_states store (IsNewStore store) mid new history from s))
+    (λ (s : memory.Store). OverStart outside old new store (λ history from. HasBegun outside crash_states store (IsNewStore store) old new history from s)) c.make_store.result
+    (λ s is. begun_over outside crash_states counts old mid reads store (IsNewStore store) new s is) made
+
+pub returns-in-Ok-eq0-default-clause-not_begun : goal.returns-in-Ok-eq0-default-clause-not_begun
+returns-in-Ok-eq0-default-clause-not_begun g c =
+    let outside = g.P.Platform.outside in
+    let crash_states = g.P.Platform.crash_states in
+    let counts = g.met.P.Platform.counts in
+    let store : Store = plain_store c.args.secret.now c.args.segments in
+    let old = c.args.platform.now in
+    let mid = c.anchor.new.self in
+    let new = c.make_store.new.platform in
+    let a = c.anchor.ensures in
+    let reads = anchor_reads outside crash_states counts old mid c.anchor.result a.trace a.anchor a.image a.now a.time a.told in
+    let made = subst (λ (k : List ℕ). IfErr c.make_store.result (λ (e : Status). OverStart outside mid new (plain_store k c.args.segments)
+    (λ history from. HasNotMade outside crash_states (plain_store k c.args.segments) (IsNewStore (plain_store k c.args.segments)) mid new history from))) c.new.ensures c.make_store.ensures.not_made in
+    if_err (λ (e : Status). OverStart outside mid new store (λ history from. HasNotMade outside crash_states store (IsNewStore store) mid new history from)) (λ (e : Status). IsStopOfMaking (outside mid) (outside new) e)
+    (λ (e : Status). OverStart outside old new store (λ history from. HasNotBegun outside crash_states store (IsNewStore store) old new history from × IsExplainedStop store (outside old) (outside new) from e)) c.make_store.result
+    (λ e is stopped why told sound history from log. (
+      not_begun_over outside crash_states counts old mid reads store (IsNewStore store) new stopped told sound history from log,
+      explained_making store (outside old) (outside mid) (outside new) from e why (λ refusal same. absurd (c.make_store.ensures.never_refused refusal (is ∙ ap (λ (s : Status). Err s) same))),
+    )) made c.make_store.ensures.why
+
+pub returns-in-Ok-eq0-default-clause-whole : goal.returns-in-Ok-eq0-default-clause-whole
+returns-in-Ok-eq0-default-clause-whole g c =
+    let a = c.anchor.ensures in
+    let mid = c.anchor.new.self in
+    let new = c.make_store.new.platform in
+    let reads = anchor_reads g.P.Platform.outside g.P.Platform.crash_states g.met.P.Platform.counts c.args.platform.now mid c.anchor.result a.trace a.anchor a.image a.now a.time a.told in
+    whole_after g.P.Platform.outside g.P.Platform.crash_states g.met.P.Platform.counts c.args.platform.now mid reads (plain_store c.args.secret.now c.args.segments) new
+    (subst (λ (k : List ℕ). StaysIntact (plain_store k c.args.segments) (g.P.Platform.outside mid) (g.P.Platform.outside new)) c.new.ensures c.make_store.ensures.whole)
+
+pub returns-in-Ok-clause-not_begun : goal.returns-in-Ok-clause-not_begun
+returns-in-Ok-clause-not_begun g c told sound history from is =
+    let outside = g.P.Platform.outside in
+    let crash_states = g.P.Platform.crash_states in
+    let counts = g.met.P.Platform.counts in
+    let store : Store = plain_store c.args.secret.now c.args.segments in
+    let a = c.anchor.ensures in
+    let reads = anchor_reads outside crash_states counts c.args.platform.now c.anchor.new.self c.anchor.result a.trace a.anchor a.image a.now a.time a.told in
+    (not_begun_read outside crash_states counts c.args.platform.now c.anchor.new.self reads store (IsNewStore store) told sound history from is, tt)
+
+pub returns-in-Ok-clause-goes_on : goal.returns-in-Ok-clause-goes_on
+returns-in-Ok-clause-goes_on g c =
+    let a = c.anchor.ensures in
+    let reads = anchor_reads g.P.Platform.outside g.P.Platform.crash_states g.met.P.Platform.counts c.args.platform.now c.anchor.new.self c.anchor.result a.trace a.anchor a.image a.now a.time a.told in
+    reads_goes g.P.Platform.outside g.P.Platform.crash_states g.met.P.Platform.counts c.args.platform.now c.anchor.new.self reads (plain_store c.args.secret.now c.args.segments)
