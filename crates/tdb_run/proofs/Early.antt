@@ -7,7 +7,7 @@ use Rattle.tdb_overlay.specs.Found.{Store}
 use Rattle.tdb_run.specs.Begin.{IsEarlyStop}
 use Rattle.tdb_run.specs.OneLine.{Keeps}
 use Rattle.tdb_run.specs.Opened.{GoesOn}
-use Rattle.tdb_run.specs.Replies.{Conversation, HasAnswered}
+use Rattle.tdb_run.specs.Replies.{Conversation, HasAnswered, HasCut}
 use Rattle.tdb_run.specs.Run.{IsStopWithoutScript}
 use Rattle.tdb_run.specs.Served.{HasHeld, IsAtOnce, IsCaused, Served}
 use Rattle.tdb_run.specs.declared.status.Success.TheVariants.{Script, Formatted}
@@ -55,10 +55,23 @@ module _ (came : SourceContent) where
   held_none held End is = sym (append-nil held)
   held_none held (Refused refusal) is = sym (append-nil held)
 
+-- no reply was cut
+pub cut_none : (status : Status) → IsAtOnce status → HasCut None status
+cut_none SinkFault is = is
+cut_none (Done success) is = tt
+cut_none Usage is = tt
+cut_none (AnchorCount formatted) is = tt
+cut_none (Damaged finding) is = tt
+cut_none PlatformFault is = tt
+cut_none SourceFault is = tt
+cut_none Memory is = tt
+cut_none End is = tt
+cut_none (Refused refusal) is = tt
+
 module _ (came : SourceContent) (before : SinkContent) where
   -- and nothing put
   abbrev pub served_none : (status : Status) → IsAtOnce status → Served came came before before status
-  served_none status is = record { conversation = no_conversation came; answered = answered_none came status is; cut = tt; held = λ told. held_none came before.held status is }
+  served_none status is = record { conversation = no_conversation came; answered = answered_none came status is; cut = cut_none status is; held = λ told. held_none came before.held status is }
 
   -- a stop of the calls of a platform
   pub early_caused : (old new : Outside) (status : Status) → IsStopWithoutScript old new status → IsCaused came came before before old new status

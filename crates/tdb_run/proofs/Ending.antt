@@ -43,7 +43,7 @@ module _ (came now later : SourceContent) (same : now.tells ≡ came.tells) (bef
     held_left status stops told = left_cases (λ st. HasHeld conversation_left before.held after.held st) now later lines next left (λ end. s.put told) (λ fault. s.put told) status stops
 
     abbrev pub served_left : (status : Status) → StopsFor left status → Served came later before after status
-    served_left status stops = record { conversation = conversation_left; answered = answered_left status stops; cut = tt; held = held_left status stops }
+    served_left status stops = record { conversation = conversation_left; answered = answered_left status stops; cut = left_cases (λ st. HasCut None st) now later lines next left (λ end. tt) (λ fault. tt) status stops; held = held_left status stops }
 
   module _ (line : List ℕ) (n : IsNextLine now later lines next line) where
     abbrev pub conversation_cut : Option Reply → Conversation came later
@@ -57,7 +57,7 @@ module _ (came now later : SourceContent) (same : now.tells ≡ came.tells) (bef
     held_line_stopped old new status stops told = line_cases (λ st. HasHeld (conversation_cut None) before.held after.held st) old new (s.put told) (λ rose. s.put told) status stops
 
     abbrev pub served_line : (old new : Outside) (status : Status) → IsStopOfLine old new status → Served came later before after status
-    served_line old new status stops = record { conversation = conversation_cut None; answered = answered_line_stopped old new status stops; cut = tt; held = held_line_stopped old new status stops }
+    served_line old new status stops = record { conversation = conversation_cut None; answered = answered_line_stopped old new status stops; cut = line_cases (λ st. HasCut None st) old new tt (λ rose. tt) status stops; held = held_line_stopped old new status stops }
 
     -- the next line was answered, and its reply wasn't put whole
     module _ (last : SinkContent) (reply : Reply) where
@@ -71,7 +71,7 @@ module _ (came now later : SourceContent) (same : now.tells ≡ came.tells) (bef
       held_cut status stops told =
           put_cases (λ st. HasHeld (conversation_cut (Some reply)) before.held last.held st) (reply_spelling reply) after last
           (λ memory. memory (subst IsTrue (sym still) told) ∙ s.put told)
-          (λ fault. (reply_spelling reply, refl, subst (λ (l : List ℕ). AddsPrefix (reply_spelling reply) l last.held) (s.put told) (fault.0 (subst IsTrue (sym still) told)))) status stops
+          (λ fault. (reply, refl, subst (λ (l : List ℕ). AddsPrefix (reply_spelling reply) l last.held) (s.put told) (fault.0 (subst IsTrue (sym still) told)))) status stops
 
       abbrev pub served_cut : (status : Status) → IsPutFor (reply_spelling reply) after last status → Served came later before last status
       served_cut status stops = record { conversation = conversation_cut (Some reply); answered = answered_cut status stops; cut = cut_reply status stops; held = held_cut status stops }

@@ -17,10 +17,10 @@ pub mod NotesCommits
 pub mod Over
 pub mod Ran
 pub mod ReadingLines
+pub mod Refusing
 pub mod Reopening
 pub mod Room
 pub mod RunBeginning
-pub mod RunEnding
 pub mod RunRan
 pub mod SoFar
 pub mod Stops

@@ -10,6 +10,7 @@ use Rattle.tdb_stream.specs.SourceContent.{SourceContent}
 use Rattle.tdb_overlay.specs.Found.{Store}
 use Rattle.tdb_overlay.specs.Growth.{IsSettled}
 use Rattle.tdb_overlay.specs.Log.{IsLog}
+use Rattle.tdb_run.specs.Gave.{HasNoLineFeed}
 use Rattle.tdb_run.specs.LineResult.{HasAllOf, LineAnswered, LineStopped}
 use Rattle.tdb_run.specs.Replies.{Conversation}
 use Rattle.tdb_run.specs.Script.{ScriptState}
@@ -58,7 +59,7 @@ module _ {D : Type 0} (outside : D → Outside) (crash_states : D → CrashState
             (leaves_no_part outside crash_states counts store mid (history ++ added_by s.answers) [] s.last told settled s.log);
       }
 
-  module _ (new : D) (grows : Extends (outside mid).trace (outside new).trace) (line later : List ℕ) (status : Status) (unanswered : c.unanswered ≡ line ++ 10 ∷ later) (none_at_done : (maybe : History) → NoneAtDone status maybe) where
+  module _ (new : D) (grows : Extends (outside mid).trace (outside new).trace) (line later : List ℕ) (status : Status) (unanswered : c.unanswered ≡ line ++ 10 ∷ later) (no_line_feed : HasNoLineFeed line) (none_at_done : (maybe : History) → NoneAtDone status maybe) where
     -- the next line was read, and not answered
     pub ran_stopped : c.next ≡ None → LineStopped outside crash_states store mid new (history ++ added_by s.answers) s.last line → ScriptRan outside crash_states store c old new history first status
     ran_stopped none stopped = record {
@@ -69,7 +70,7 @@ module _ {D : Type 0} (outside : D → Outside) (crash_states : D → CrashState
       goes_on = grows;
       replies = s.replies_are;
       maybe = stopped.maybe;
-      of_next = ⊎_elim (λ nothing. inl (none, nothing)) (λ made. inr (line, later, made.0, unanswered, made.1, made.2, inl none)) stopped.of_line;
+      of_next = ⊎_elim (λ nothing. inl (none, nothing)) (λ made. inr (line, later, made.0, unanswered, no_line_feed, made.1, made.2, inl none)) stopped.of_line;
       none_at_done = none_at_done stopped.maybe;
       log = all_behind store (outside new).anchor (outside new).trace.written history (added_by s.answers) stopped.maybe stopped.log;
       left = λ i a left. all_behind store a (outside new).trace.written history (added_by s.answers) stopped.maybe (stopped.left i a left);
@@ -90,7 +91,7 @@ module _ {D : Type 0} (outside : D → Outside) (crash_states : D → CrashState
           goes_on = grows;
           replies = s.replies_are;
           maybe = a.given.added;
-          of_next = inr (line, later, a.given, unanswered, a.answers, refl, inr (cut ∙ ap (λ (r : Reply). Some r) (sym a.reply_is)));
+          of_next = inr (line, later, a.given, unanswered, no_line_feed, a.answers, refl, inr (cut ∙ ap (λ (r : Reply). Some r) (sym a.reply_is)));
           none_at_done = none_at_done a.given.added;
           log = whole;
           left = λ i b left. subst (λ (d : Anchor). HasAllOf (outside new).trace.written store history (added_by s.answers) a.given.added d) (sym (settled told i b left)) whole;

@@ -1,5 +1,5 @@
 -- What a run has come to, by how it began and what its script did.
-use Rattle.std.proofs.Common.{◌≡◌, inl, inr, ⊎_elim, ℕ, ◌≤◌, List, [], ◌++◌, IsTrue, refl, sym, ◌∙◌, ap, subst, arith, append-nil, append_assoc}
+use Rattle.std.proofs.Common.{◌≡◌, inl, inr, ⊎_elim, ℕ, ◌≤◌, None, List, [], ◌++◌, IsTrue, refl, sym, ◌∙◌, ap, subst, arith, append-nil, append_assoc}
 use Rattle.tdb_base.specs.Trace.{Extends, Trace, WrittenPiece}
 use Rattle.tdb_model.specs.Apply.{History}
 use Rattle.tdb_platform.specs.Outside.{Anchor, Outside}
@@ -148,7 +148,7 @@ module _ {D : Type 0} (outside : D → Outside) (crash_states : D → CrashState
               );
         }
 
-    module _ (no_line : c.lines ≡ []) (no_reply : c.replies ≡ []) where
+    module _ (untaken : c.taken ≡ []) (no_line : c.lines ≡ []) (no_reply : c.replies ≡ []) (no_next : c.next ≡ None) where
       -- a store that couldn't be opened
       pub ran_early : (old new : D) (status : Status) → IsEarlyStop (outside old) (outside new) status → HasNotBegun outside crash_states store opens old new history from
           → IsExplainedStop store (outside old) (outside new) from status → RunRan outside crash_states store c opens old new history from status
@@ -160,7 +160,7 @@ module _ {D : Type 0} (outside : D → Outside) (crash_states : D → CrashState
         script =
             inr
             (inr
-            (record { of_opening = b.of_opening; no_line = no_line; no_answer = refl; none = refl; ends_so = early_before (outside old) (outside new) status early }));
+            (record { of_opening = b.of_opening; untaken = untaken; no_line = no_line; no_next = no_next; no_answer = refl; none = refl; ends_so = early_before (outside old) (outside new) status early }));
         explained = explained;
         log = b.log;
         stops = b.stops;
@@ -178,7 +178,7 @@ module _ {D : Type 0} (outside : D → Outside) (crash_states : D → CrashState
             answers = [];
             maybe = [];
             replies = sym no_reply;
-            script = inr (inl (record { opened = b.opened; begins = b.begins; no_line = no_line; no_answer = refl; none = refl; ends_so = tt }));
+            script = inr (inl (record { opened = b.opened; begins = b.begins; untaken = untaken; no_line = no_line; no_next = no_next; no_answer = refl; none = refl; ends_so = tt }));
             explained = tt;
             log = log;
             stops =

@@ -116,7 +116,7 @@ module _ {D : Type 0} (outside : D → Outside) (crash_states : D → CrashState
       λ told sound history first log at.
           let s = t.so_far told (sound_mid told sound) history first log at in
           ran_stopped outside crash_states counts store came later (conversation_cut came now later same before after still turn.lines turn'.lines t.conversing stopped.line stopped.next None) old mid history first turn.store turn.session
-          s new (grows told) stopped.line (unread turn'.lines) status refl
+          s new (grows told) stopped.line (unread turn'.lines) status refl stopped.next.no_line_feed
           (λ maybe. line_cases (λ st. NoneAtDone st maybe) (outside mid) (outside new) tt (λ rose. tt) status stopped.why) refl
           (stopped.premised (told_mid told) sound (history ++ added_by s.answers) s.last s.log s.at),
     )
@@ -128,7 +128,7 @@ module _ {D : Type 0} (outside : D → Outside) (crash_states : D → CrashState
       λ told sound history first log at.
           let s = t.so_far told (sound_mid told sound) history first log at in
           ran_cut outside crash_states counts store came later (conversation_cut came now later same before after still turn.lines turn'.lines t.conversing cut.answered.line cut.answered.next (Some cut.reply)) old mid history first turn.store
-          turn.session s new (grows told) cut.answered.line (unread turn'.lines) status refl
+          turn.session s new (grows told) cut.answered.line (unread turn'.lines) status refl cut.answered.next.no_line_feed
           (λ maybe. put_cases (λ st. NoneAtDone st maybe) (reply_spelling cut.reply) after last (λ memory. tt) (λ fault. tt) status cut.cut) cut.reply turn'.store turn'.session refl (subst IsTrue (sym goes.tells) (told_mid told))
           cut.settled (cut.answered.premised (told_mid told) sound (history ++ added_by s.answers) s.last s.log s.at),
     )

@@ -1,14 +1,11 @@
 -- What a run has taken, answered and put.
 use Rattle.std.specs.Prelude.{◌≡◌, ◌≢◌, ◌⊎◌, ◌≤◌, ℕ, List, [], ◌∷◌, ◌++◌, length, IsTrue, flat_map, Option, Some, None}
 use Rattle.std.specs.List.{All}
-use Rattle.tdb_stream.specs.AddsPrefix.{AddsPrefix}
-use Rattle.tdb_stream.specs.SinkContent.{SinkContent}
 use Rattle.tdb_stream.specs.SourceContent.{SourceContent}
 use Rattle.tdb_script.specs.ReplySpelling.{reply_spelling}
 use Rattle.tdb_script.specs.declared.reply.Reply.{Reply}
 use Rattle.tdb_script.specs.declared.reply.Reply.TheVariants.{Bye}
 use Rattle.tdb_run.specs.Gave.{Gave, HasNoLineFeed}
-use Rattle.tdb_run.specs.StatusLine.{status_line}
 use Rattle.tdb_run.specs.declared.status.Success.TheVariants.{Script, Formatted}
 use Rattle.tdb_run.specs.declared.status.Status.{Status}
 use Rattle.tdb_run.specs.declared.status.Status.TheVariants.{Done, Usage, AnchorCount, Damaged, PlatformFault, SourceFault, SinkFault, Memory, End, Refused}
@@ -69,31 +66,8 @@ HasAnswered c Memory = NoBye c.replies
 
 -- a reply that wasn't put whole is the last thing of a run: a fault of the sink, or want of memory
 abbrev pub HasCut : Option Reply → Status → Type 0
-HasCut None status = Unit {0}
 HasCut (Some reply) SinkFault = Unit {0}
 HasCut (Some reply) Memory = Unit {0}
-HasCut (Some reply) (Done success) = ⊥
-HasCut (Some reply) Usage = ⊥
-HasCut (Some reply) (AnchorCount formatted) = ⊥
-HasCut (Some reply) (Damaged finding) = ⊥
-HasCut (Some reply) PlatformFault = ⊥
-HasCut (Some reply) SourceFault = ⊥
-HasCut (Some reply) End = ⊥
-HasCut (Some reply) (Refused refusal) = ⊥
-
--- The bytes that a run puts behind its replies: a piece of which a sink that fails may hold a first part.
-abbrev pub IsCutPiece : Option Reply → List ℕ → Type 0
-IsCutPiece (Some reply) piece = piece ≡ reply_spelling reply
-IsCutPiece None piece = (status : Status) × (piece ≡ status_line status)
-
--- What the sink then holds: its old bytes, the replies, and the last line, or a prefix of what couldn't be put whole.
-abbrev pub HasPut : {came gone : SourceContent} → Conversation came gone → List ℕ → List ℕ → Status → Type 0
-HasPut c held now SinkFault = (piece : List ℕ) × IsCutPiece c.next piece × AddsPrefix piece (held ++ replies_text c.replies) now
-HasPut c held now status = now ≡ held ++ replies_text c.replies ++ status_line status
-
--- the replies of a run that ends with a status
-pub record Replies (came gone : SourceContent) (before after : SinkContent) (status : Status) : Type 0 where
-  pub conversation : Conversation came gone
-  pub answered : HasAnswered conversation status
-  pub cut : HasCut conversation.next status
-  pub put : IsTrue before.tells → HasPut conversation before.held after.held status
+HasCut (Some reply) status = ⊥
+HasCut None SinkFault = ⊥
+HasCut None status = Unit {0}

@@ -1,5 +1,5 @@
 -- What a whole run has come to, by the log that the anchor had at its start.
-use Rattle.std.specs.Prelude.{◌≡◌, ◌⊎◌, ℕ, List, [], ◌++◌, map}
+use Rattle.std.specs.Prelude.{◌≡◌, ◌⊎◌, ℕ, List, [], ◌++◌, map, None}
 use Rattle.tdb_base.specs.Trace.{Extends}
 use Rattle.tdb_model.specs.Apply.{History}
 use Rattle.tdb_platform.specs.Outside.{Outside}
@@ -11,8 +11,9 @@ use Rattle.tdb_overlay.specs.Found.{Store}
 use Rattle.tdb_overlay.specs.StoreState.{StoreState}
 use Rattle.tdb_run.specs.Begin.{IsEarlyStop, IsExplainedStop, IsNewStore, IsReopened, LeavesLogOrNothing, Opens, OverStart}
 use Rattle.tdb_run.specs.Command.{IsFormat, IsRun, IsStart}
+use Rattle.tdb_run.specs.LastLine.{EndsWith}
 use Rattle.tdb_run.specs.LineResult.{HasAllOf}
-use Rattle.tdb_run.specs.Replies.{Conversation, Replies}
+use Rattle.tdb_run.specs.Replies.{Conversation}
 use Rattle.tdb_run.specs.Script.{Answer, ScriptState, script_at}
 use Rattle.tdb_run.specs.Served.{IsOfNext, IsScriptStatus, NoneAtDone, Served}
 use Rattle.tdb_run.specs.Session.{Session, added_by}
@@ -23,29 +24,20 @@ use Rattle.tdb_run.specs.declared.status.Status.TheVariants.{Done, Usage, Anchor
 -- how a run may end that didn't come to its script
 abbrev pub IsBeforeScript : Status → Type 0
 IsBeforeScript (Done success) = ⊥
-IsBeforeScript Usage = Unit {0}
+IsBeforeScript Usage = ⊥
 IsBeforeScript (AnchorCount formatted) = Unit {0}
 IsBeforeScript (Damaged finding) = Unit {0}
 IsBeforeScript PlatformFault = Unit {0}
 IsBeforeScript SourceFault = ⊥
-IsBeforeScript SinkFault = Unit {0}
+IsBeforeScript SinkFault = ⊥
 IsBeforeScript Memory = Unit {0}
 IsBeforeScript End = ⊥
 IsBeforeScript (Refused refusal) = Unit {0}
 
--- how one may end that made a new store and has no script
+-- how one ends that made a new store and has no script
 abbrev pub IsWithoutScript : Status → Type 0
-IsWithoutScript (Done Script) = ⊥
 IsWithoutScript (Done (Formatted segments)) = Unit {0}
-IsWithoutScript SinkFault = Unit {0}
-IsWithoutScript Memory = Unit {0}
-IsWithoutScript Usage = ⊥
-IsWithoutScript (AnchorCount formatted) = ⊥
-IsWithoutScript (Damaged finding) = ⊥
-IsWithoutScript PlatformFault = ⊥
-IsWithoutScript SourceFault = ⊥
-IsWithoutScript End = ⊥
-IsWithoutScript (Refused refusal) = ⊥
+IsWithoutScript status = ⊥
 
 -- The lines were a session from the state in which the store was opened.
 pub record HasScript {came gone : SourceContent} (store : Store) (c : Conversation came gone) (opens : StoreState → History → StoreState → Type 0) (old new : Outside) (from : StoreState) (status : Status) (begun : History) (answers : List Answer) (maybe : History) : Type 0 where
@@ -61,19 +53,23 @@ pub record HasScript {came gone : SourceContent} (store : Store) (c : Conversati
   pub none_at_done : NoneAtDone status maybe
   pub ends_so : IsScriptStatus status
 
--- A new store was made, and no line answered.
+-- A new store was made, and no line taken.
 pub record HasNewStore {came gone : SourceContent} (c : Conversation came gone) (opens : StoreState → History → StoreState → Type 0) (from : StoreState) (status : Status) (begun : History) (answers : List Answer) (maybe : History) : Type 0 where
   pub opened : StoreState
   pub begins : opens from begun opened
+  pub untaken : c.taken ≡ []
   pub no_line : c.lines ≡ []
+  pub no_next : c.next ≡ None
   pub no_answer : answers ≡ []
   pub none : maybe ≡ []
   pub ends_so : IsWithoutScript status
 
--- No line was answered. What a run commits before its script may have been committed.
+-- No line was taken. What a run commits before its script may have been committed.
 pub record HasNoScript {came gone : SourceContent} (c : Conversation came gone) (opens : StoreState → History → StoreState → Type 0) (from : StoreState) (status : Status) (begun : History) (answers : List Answer) (maybe : History) : Type 0 where
   pub of_opening : (maybe ≡ []) ⊎ ((opened : StoreState) × opens from maybe opened)
+  pub untaken : c.taken ≡ []
   pub no_line : c.lines ≡ []
+  pub no_next : c.next ≡ None
   pub no_answer : answers ≡ []
   pub none : begun ≡ []
   pub ends_so : IsBeforeScript status
@@ -94,19 +90,20 @@ pub record RunRan {D : Type 0} (outside : D → Outside) (crash_states : D → C
 abbrev pub RunOver : {D : Type 0} → (D → Outside) → (D → CrashStates) → Store → {came gone : SourceContent} → Conversation came gone → Opens → D → D → Status → Type 0
 RunOver outside crash_states store c opens old new status = OverStart outside old new store (λ history from. RunRan outside crash_states store c opens old new history from status)
 
--- what a command's run has come to: its conversation, and by its words what that was
-pub record RunOutcome {D : Type 0} (outside : D → Outside) (crash_states : D → CrashStates) (words : List (List ℕ)) (secret : List ℕ) (came gone : SourceContent) (before after : SinkContent) (old new : D) (status : Status) : Type 0 where
-  pub replies : Replies came gone before after status
-  pub start : (segments : ℕ) → IsStart words segments → RunOver outside crash_states (plain_store secret segments) replies.conversation (IsNewStore (plain_store secret segments)) old new status
-  pub format : (segments : ℕ) → IsFormat words segments → RunOver outside crash_states (plain_store secret segments) replies.conversation (IsNewStore (plain_store secret segments)) old new status
-  pub reopened : IsRun words → (store : Store) → store.secret ≡ secret → RunOver outside crash_states store replies.conversation (IsReopened store) old new status
-
--- the same before the last line is put
+-- What a command's run has come to before its last line: its conversation, and by its words what that was.
 pub record RunServed {D : Type 0} (outside : D → Outside) (crash_states : D → CrashStates) (words : List (List ℕ)) (secret : List ℕ) (came gone : SourceContent) (before after : SinkContent) (old new : D) (status : Status) : Type 0 where
   pub served : Served came gone before after status
   pub start : (segments : ℕ) → IsStart words segments → RunOver outside crash_states (plain_store secret segments) served.conversation (IsNewStore (plain_store secret segments)) old new status
-  pub format : (segments : ℕ) → IsFormat words segments → RunOver outside crash_states (plain_store secret segments) served.conversation (IsNewStore (plain_store secret segments)) old new status
+  pub format : (segments : ℕ) → IsFormat words segments → (served.conversation.taken ≡ []) × RunOver outside crash_states (plain_store secret segments) served.conversation (IsNewStore (plain_store secret segments)) old new status
   pub reopened : IsRun words → (store : Store) → store.secret ≡ secret → RunOver outside crash_states store served.conversation (IsReopened store) old new status
+
+-- What a command's run has come to: how it was to end when it came to its last line, and how it ended by that.
+pub record RunOutcome {D : Type 0} (outside : D → Outside) (crash_states : D → CrashStates) (words : List (List ℕ)) (secret : List ℕ) (came gone : SourceContent) (before after : SinkContent) (old new : D) (status : Status) : Type 0 where
+  pub meant : Status
+  pub middle : SinkContent
+  pub still : middle.tells ≡ before.tells
+  pub served : RunServed outside crash_states words secret came gone before middle old new meant
+  pub last_line : EndsWith middle after meant status
 
 -- how the command `format` ends
 abbrev pub IsStopWithoutScript : Outside → Outside → Status → Type 0

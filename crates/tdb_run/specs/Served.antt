@@ -5,22 +5,24 @@ use Rattle.tdb_base.specs.Trace.{Extends}
 use Rattle.tdb_model.specs.Apply.{History}
 use Rattle.tdb_platform.specs.Outside.{Anchor, Outside}
 use Rattle.tdb_platform.specs.CrashStates.{CrashStates, LeavesOnly, now}
+use Rattle.tdb_script.specs.ReplySpelling.{reply_spelling}
 use Rattle.tdb_script.specs.declared.reply.Reply.{Reply}
 use Rattle.tdb_stream.specs.AddsPrefix.{AddsPrefix}
 use Rattle.tdb_stream.specs.SinkContent.{SinkContent}
 use Rattle.tdb_stream.specs.SourceContent.{SourceContent}
 use Rattle.tdb_overlay.specs.Found.{Store}
+use Rattle.tdb_run.specs.Gave.{HasNoLineFeed}
 use Rattle.tdb_run.specs.LineResult.{HasAllOf, HasPartOf}
-use Rattle.tdb_run.specs.Replies.{Conversation, HasAnswered, HasCut, IsCutPiece, replies_text}
+use Rattle.tdb_run.specs.Replies.{Conversation, HasAnswered, HasCut, replies_text}
 use Rattle.tdb_run.specs.Script.{Answer, ScriptState}
 use Rattle.tdb_run.specs.Session.{AnswersBetween, Session, added_by}
 use Rattle.tdb_run.specs.declared.status.Success.TheVariants.{Script, Formatted}
 use Rattle.tdb_run.specs.declared.status.Status.{Status}
 use Rattle.tdb_run.specs.declared.status.Status.TheVariants.{Done, Usage, AnchorCount, Damaged, PlatformFault, SourceFault, SinkFault, Memory, End, Refused}
 
--- the sink holds its old bytes and the replies, or a prefix of what couldn't be put whole
+-- the sink holds its old bytes and the replies, and at its fault a prefix of the one that couldn't be put whole
 abbrev pub HasHeld : {came gone : SourceContent} → Conversation came gone → List ℕ → List ℕ → Status → Type 0
-HasHeld c held now SinkFault = (piece : List ℕ) × IsCutPiece c.next piece × AddsPrefix piece (held ++ replies_text c.replies) now
+HasHeld c held now SinkFault = (reply : Reply) × (c.next ≡ Some reply) × AddsPrefix (reply_spelling reply) (held ++ replies_text c.replies) now
 HasHeld c held now status = now ≡ held ++ replies_text c.replies
 
 pub record Served (came gone : SourceContent) (before after : SinkContent) (status : Status) : Type 0 where
@@ -46,7 +48,7 @@ NoneAtDone (Refused refusal) maybe = Unit {0}
 abbrev pub IsOfNext : Store → Outside → Outside → ScriptState → List ℕ → Option Reply → History → Type 0
 IsOfNext store old new last unanswered next maybe =
     ((next ≡ None) × (maybe ≡ []))
-    ⊎ ((line : List ℕ) × (later : List ℕ) × (given : Answer) × (unanswered ≡ line ++ 10 ∷ later) × AnswersBetween store old new last line given
+    ⊎ ((line : List ℕ) × (later : List ℕ) × (given : Answer) × (unanswered ≡ line ++ 10 ∷ later) × HasNoLineFeed line × AnswersBetween store old new last line given
     × (maybe ≡ given.added) × ((next ≡ None) ⊎ (next ≡ Some given.reply)))
 
 -- Over a store that had a log, a script is a session: each line is answered by what stood then, each commit that was
@@ -105,6 +107,19 @@ IsAtOnce (Refused refusal) = Unit {0}
 IsAtOnce SourceFault = ⊥
 IsAtOnce SinkFault = ⊥
 IsAtOnce End = ⊥
+
+-- a run that ends so was refused before its script
+abbrev pub WasRefused : Status → Type 0
+WasRefused (AnchorCount formatted) = Unit {0}
+WasRefused (Damaged finding) = Unit {0}
+WasRefused (Refused refusal) = Unit {0}
+WasRefused (Done success) = ⊥
+WasRefused Usage = ⊥
+WasRefused PlatformFault = ⊥
+WasRefused SourceFault = ⊥
+WasRefused SinkFault = ⊥
+WasRefused Memory = ⊥
+WasRefused End = ⊥
 
 -- nothing was written, and the device and the anchor are the same
 pub record IsUnwritten (old new : Outside) : Type 0 where

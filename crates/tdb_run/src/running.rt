@@ -1,8 +1,9 @@
 //! One run: a command from its words to its last line.
-ghost use Rattle.std.specs.Prelude.{◌≡◌, ◌≢◌, ◌⊎◌, ◌↔◌, ◌≤◌, [], ℕ, IsTrue, false, true};
+ghost use Rattle.std.specs.Prelude.{◌≡◌, ◌≢◌, ◌⊎◌, ◌↔◌, ◌≤◌, [], ℕ, IsTrue, None, false, true};
 ghost use Rattle.tdb_chunk.specs.Formatting.{plain_store};
 ghost use Rattle.tdb_overlay.specs.Found.{Store};
 ghost use Rattle.tdb_overlay.specs.Intact.{StaysIntact};
+ghost use Rattle.tdb_overlay.specs.Reading.{OnlyReads};
 ghost use Rattle.tdb_overlay.specs.SealedOnly.{OnlySealed};
 ghost use Rattle.tdb_run.specs.Command.{IsFormat, IsNoCommand, IsOfNewStore, IsRun, texts};
 ghost use Rattle.tdb_run.specs.OneLine.{Keeps};
@@ -10,7 +11,7 @@ ghost use Rattle.tdb_run.specs.Begin.{IsNewStore, IsReopened};
 ghost use Rattle.tdb_run.specs.Opened.{GoesOn};
 ghost use Rattle.tdb_run.specs.Replies.{Conversation};
 ghost use Rattle.tdb_run.specs.Run.{IsStopWithoutScript, RunOutcome, RunOver, RunServed};
-ghost use Rattle.tdb_run.specs.Served.{IsCaused, IsUnwritten, Served};
+ghost use Rattle.tdb_run.specs.Served.{IsCaused, IsUnwritten, Served, WasRefused};
 ghost use Rattle.tdb_stream.specs.SourceContent.{SourceContent};
 ghost use Rattle.tdb_run.specs.declared.status.Status.TheVariants.{Done, Usage, AnchorCount, PlatformFault, SinkFault};
 ghost use Rattle.tdb_run.specs.declared.status.Success.TheVariants.{Script, Formatted};
@@ -60,8 +61,11 @@ pub fn run<S: Source, K: Sink, P: Platform>(
     // anchor and of each that a stop may leave, and damage is told only where the device has some.
     ensures outcome { RunOutcome P.outside P.crash_states (texts words.now) secret.now (S.content source.old) (S.content source.new) (K.content sink.old) (K.content sink.new) platform result.platform result.status }
 
-    // A run that is refused leaves the device, the anchor and the source as they were.
+    // A run that is refused reads, and leaves the device, the anchor and the source as they were, and nothing new to a stop.
+    ensures refused { WasRefused result.status → OnlyReads P.outside P.crash_states platform result.platform × (source.new ≡ source.old) }
+    ensures refused_new { IsOfNewStore (texts words.now) → WasRefused result.status → result.status ≡ AnchorCount true }
     ensures no_command { IsNoCommand (texts words.now) → (result.platform ≡ platform) × (source.new ≡ source.old) }
+    ensures format_takes_nothing { (segments : ℕ) → IsFormat (texts words.now) segments → source.new ≡ source.old }
     ensures already_untouched { IsOfNewStore (texts words.now) → IsTrue (P.outside platform).tells → (P.outside platform).anchor.0 ≢ 0
         → IsUnwritten (P.outside platform) (P.outside result.platform) × (source.new ≡ source.old) }
 
@@ -104,7 +108,10 @@ fn outcome<S: Source, K: Sink, P: Platform>(
     ensures unformatted { result ≡ AnchorCount false → IsRun (texts words.now) × (IsTrue (P.outside platform.old).tells → (P.outside platform.old).anchor.0 ≡ 0) }
     ensures unformatted_always { IsRun (texts words.now) → IsTrue (P.outside platform.old).tells → (P.outside platform.old).anchor.0 ≡ 0
         → (result ≡ AnchorCount false) ⊎ (result ≡ PlatformFault) }
+    ensures refused { WasRefused result → OnlyReads P.outside P.crash_states platform.old platform.new × (source.new ≡ source.old) }
+    ensures refused_new { IsOfNewStore (texts words.now) → WasRefused result → result ≡ AnchorCount true }
     ensures no_command { IsNoCommand (texts words.now) → (platform.new ≡ platform.old) × (source.new ≡ source.old) }
+    ensures format_takes_nothing { (segments : ℕ) → IsFormat (texts words.now) segments → source.new ≡ source.old }
     ensures already_untouched { IsOfNewStore (texts words.now) → IsTrue (P.outside platform.old).tells → (P.outside platform.old).anchor.0 ≢ 0
         → IsUnwritten (P.outside platform.old) (P.outside platform.new) × (source.new ≡ source.old) }
     ensures served { RunServed P.outside P.crash_states (texts words.now) secret.now (S.content source.old) (S.content source.new) (K.content sink.old) (K.content sink.new) platform.old platform.new result }
@@ -140,6 +147,7 @@ fn start<S: Source, K: Sink, P: Platform>(
     ensures never { result ≢ AnchorCount false }
     ensures already_always { IsTrue (P.outside platform.old).tells → (P.outside platform.old).anchor.0 ≢ 0 → (result ≡ AnchorCount true) ⊎ (result ≡ PlatformFault) }
     ensures already_untouched { IsTrue (P.outside platform.old).tells → (P.outside platform.old).anchor.0 ≢ 0 → IsUnwritten (P.outside platform.old) (P.outside platform.new) × (source.new ≡ source.old) }
+    ensures refused { WasRefused result → (result ≡ AnchorCount true) × OnlyReads P.outside P.crash_states platform.old platform.new × (source.new ≡ source.old) }
     ensures intact { (store : Store) → store.secret ≡ secret.now → StaysIntact store (P.outside platform.old) (P.outside platform.new) }
     ensures sealed { OnlySealed secret.now (P.outside platform.old) (P.outside platform.new) }
     ensures causes { IsCaused (S.content source.old) (S.content source.new) (K.content sink.old) (K.content sink.new) (P.outside platform.old) (P.outside platform.new) result }
@@ -158,13 +166,14 @@ fn start<S: Source, K: Sink, P: Platform>(
 fn format<P: Platform>(alloc: Global, platform: &mut P, secret: &[u8; 32], segments: u32) -> Status
     requires least { 16 ≤ segments }
     requires most { segments ≤ 4096 }
-    ensures ran { (came gone : SourceContent) (c : Conversation came gone) → c.lines ≡ [] → c.replies ≡ [] → RunOver P.outside P.crash_states (plain_store secret.now segments) c (IsNewStore (plain_store secret.now segments)) platform.old platform.new result }
+    ensures ran { (came gone : SourceContent) (c : Conversation came gone) → c.taken ≡ [] → c.lines ≡ [] → c.replies ≡ [] → c.next ≡ None → RunOver P.outside P.crash_states (plain_store secret.now segments) c (IsNewStore (plain_store secret.now segments)) platform.old platform.new result }
     ensures words { result ≢ Usage }
     ensures formatted { (success : Success) → result ≡ Done success → success ≡ Formatted segments }
     ensures already { result ≡ AnchorCount true → IsTrue (P.outside platform.old).tells → (P.outside platform.old).anchor.0 ≢ 0 }
     ensures never { result ≢ AnchorCount false }
     ensures already_always { IsTrue (P.outside platform.old).tells → (P.outside platform.old).anchor.0 ≢ 0 → (result ≡ AnchorCount true) ⊎ (result ≡ PlatformFault) }
     ensures already_untouched { IsTrue (P.outside platform.old).tells → (P.outside platform.old).anchor.0 ≢ 0 → IsUnwritten (P.outside platform.old) (P.outside platform.new) }
+    ensures refused { WasRefused result → (result ≡ AnchorCount true) × OnlyReads P.outside P.crash_states platform.old platform.new }
     ensures intact { (store : Store) → store.secret ≡ secret.now → StaysIntact store (P.outside platform.old) (P.outside platform.new) }
     ensures goes_on { GoesOn (plain_store secret.now segments) (P.outside platform.old) (P.outside platform.new) }
     ensures early { IsStopWithoutScript (P.outside platform.old) (P.outside platform.new) result }
@@ -190,6 +199,7 @@ fn reopen<S: Source, K: Sink, P: Platform>(
     ensures unformatted { result ≡ AnchorCount false → IsTrue (P.outside platform.old).tells → (P.outside platform.old).anchor.0 ≡ 0 }
     ensures never { result ≢ AnchorCount true }
     ensures unformatted_always { IsTrue (P.outside platform.old).tells → (P.outside platform.old).anchor.0 ≡ 0 → (result ≡ AnchorCount false) ⊎ (result ≡ PlatformFault) }
+    ensures refused { WasRefused result → OnlyReads P.outside P.crash_states platform.old platform.new × (source.new ≡ source.old) }
     ensures intact { (store : Store) → store.secret ≡ secret.now → StaysIntact store (P.outside platform.old) (P.outside platform.new) }
     ensures sealed { OnlySealed secret.now (P.outside platform.old) (P.outside platform.new) }
     ensures causes { IsCaused (S.content source.old) (S.content source.new) (K.content sink.old) (K.content sink.new) (P.outside platform.old) (P.outside platform.new) result }

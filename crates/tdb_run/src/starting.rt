@@ -9,6 +9,7 @@ ghost use Rattle.tdb_chunk.specs.Writing.{HasNeither, IsWritable};
 ghost use Rattle.tdb_overlay.specs.Found as found;
 ghost use Rattle.tdb_overlay.specs.Growth.{IsSettled};
 ghost use Rattle.tdb_overlay.specs.Intact.{StaysIntact};
+ghost use Rattle.tdb_overlay.specs.Reading.{OnlyReads};
 ghost use Rattle.tdb_overlay.specs.StoreState.{StoreState, commit_on};
 ghost use Rattle.tdb_recover.specs.declared.error.OpenError.TheVariants as opening;
 ghost use Rattle.tdb_run.specs.Begin.{HasBegun, HasNotBegun, IsEarlyStop, IsExplainedStop, IsNewStore, IsReopened, OverStart, refusal_of};
@@ -16,7 +17,7 @@ ghost use Rattle.tdb_run.specs.Making.{HasMade, HasNotMade, IsStopOfMaking, IsSt
 ghost use Rattle.tdb_run.specs.NotesCommit.{IsCommitted, MayBeCommitted};
 ghost use Rattle.tdb_run.specs.Opened.{GoesOn, IsOpened};
 ghost use Rattle.tdb_run.specs.ScriptServed.{OverLog, ScriptWhole};
-ghost use Rattle.tdb_run.specs.Served.{IsUnwritten};
+ghost use Rattle.tdb_run.specs.Served.{IsUnwritten, WasRefused};
 ghost use Rattle.tdb_run.specs.declared.status.Finding.TheVariants as findings;
 ghost use Rattle.tdb_run.specs.declared.status.Refusal.{Refusal};
 ghost use Rattle.tdb_run.specs.declared.status.Status.TheVariants.{AnchorCount, Damaged, Memory, PlatformFault, Refused};
@@ -53,6 +54,7 @@ pub(crate) fn new_store<P: Platform>(
         (λ history from. HasNotBegun P.outside P.crash_states (plain_store secret.now segments) (IsNewStore (plain_store secret.now segments)) platform.old platform.new history from
         × IsExplainedStop (plain_store secret.now segments) (P.outside platform.old) (P.outside platform.new) from status)) }
     ensures early { IfErr result (λ status. IsEarlyStop (P.outside platform.old) (P.outside platform.new) status) }
+    ensures refused { IfErr result (λ status. WasRefused status → (status ≡ AnchorCount true) × OnlyReads P.outside P.crash_states platform.old platform.new) }
     ensures already { result ≡ Err (AnchorCount true) → IsTrue (P.outside platform.old).tells → (P.outside platform.old).anchor.0 ≢ 0 }
     ensures never { result ≢ Err (AnchorCount false) }
     ensures already_always { IsTrue (P.outside platform.old).tells → (P.outside platform.old).anchor.0 ≢ 0 → (result ≡ Err (AnchorCount true)) ⊎ (result ≡ Err PlatformFault) }
@@ -118,6 +120,7 @@ fn make_partitions<P: Platform>(
         → (last : StoreState) → Knows (P.outside platform.old) store.old last → commit_on (store_of store.old) last (opening_changes Plain) ≡ Err (refusal_of refusal) }
     ensures opened { OnOk result (IsOpened P.outside P.crash_states platform.new store.new) }
     ensures same_store { OnOk result (store_of store.new ≡ store_of store.old) }
+    ensures stays { IfErr result (λ status. WasRefused status → platform.new ≡ platform.old) }
     ensures goes_on { GoesOn (store_of store.old) (P.outside platform.old) (P.outside platform.new) }
     ensures whole { ScriptWhole P.outside platform.old platform.new (store_of store.old) store.old }
 {
@@ -154,6 +157,7 @@ pub(crate) fn open_store<P: Platform>(
         (λ history from. HasNotBegun P.outside P.crash_states store (IsReopened store) platform.old platform.new history from
         × IsExplainedStop store (P.outside platform.old) (P.outside platform.new) from status)) }
     ensures early { IfErr result (λ status. IsEarlyStop (P.outside platform.old) (P.outside platform.new) status) }
+    ensures refused { IfErr result (λ status. WasRefused status → OnlyReads P.outside P.crash_states platform.old platform.new) }
     ensures unformatted { result ≡ Err (AnchorCount false) → IsTrue (P.outside platform.old).tells → (P.outside platform.old).anchor.0 ≡ 0 }
     ensures never { result ≢ Err (AnchorCount true) }
     ensures unformatted_always { IsTrue (P.outside platform.old).tells → (P.outside platform.old).anchor.0 ≡ 0 → (result ≡ Err (AnchorCount false)) ⊎ (result ≡ Err PlatformFault) }
@@ -196,6 +200,7 @@ fn with_partitions<P: Platform>(
         (λ history from. HasNotMade P.outside P.crash_states (store_of store) (IsReopened (store_of store)) platform.old platform.new history from
         × IsExplainedStop (store_of store) (P.outside platform.old) (P.outside platform.new) from status)) }
     ensures why { IfErr result (IsStopOfOpening (P.outside platform.old) (P.outside platform.new)) }
+    ensures stays { IfErr result (λ status. WasRefused status → platform.new ≡ platform.old) }
     ensures goes_on { GoesOn (store_of store) (P.outside platform.old) (P.outside platform.new) }
     ensures whole { ScriptWhole P.outside platform.old platform.new (store_of store) store }
 {
@@ -240,6 +245,7 @@ fn with_new_partitions<P: Platform>(
         (λ history from. HasNotMade P.outside P.crash_states (store_of store) (IsReopened (store_of store)) platform.old platform.new history from
         × IsExplainedStop (store_of store) (P.outside platform.old) (P.outside platform.new) from status)) }
     ensures why { IfErr result (IsStopOfOpening (P.outside platform.old) (P.outside platform.new)) }
+    ensures stays { IfErr result (λ status. WasRefused status → platform.new ≡ platform.old) }
     ensures goes_on { GoesOn (store_of store) (P.outside platform.old) (P.outside platform.new) }
     ensures whole { ScriptWhole P.outside platform.old platform.new (store_of store) store }
 {

@@ -10,7 +10,7 @@ use Rattle.tdb_run.proofs.running.format.Goals.{in-Ok, in-Err}
 use Rattle.tdb_run.proofs.running.format.Goals as goal
 
 pub returns-clause-ran : goal.returns-clause-ran
-returns-clause-ran g c came gone k no_line no_reply told sound history from is =
+returns-clause-ran g c came gone k untaken no_line no_reply no_next told sound history from is =
     let outside = g.P.Platform.outside in
     let crash_states = g.P.Platform.crash_states in
     let store : Store = plain_store c.args.secret.now c.args.segments in
@@ -19,12 +19,12 @@ returns-clause-ran g c came gone k no_line no_reply told sound history from is =
     elim c.match-new_store.branch [
       | in-Ok w ↦
           subst (λ (s : Status). RunRan outside crash_states store k (IsNewStore store) old new history from s) (sym w.result-is)
-          (ran_format outside crash_states g.met.P.Platform.counts store k (IsNewStore store) history from no_line no_reply old new w.in-Ok.field-0 c.args.segments
+          (ran_format outside crash_states g.met.P.Platform.counts store k (IsNewStore store) history from untaken no_line no_reply no_next old new w.in-Ok.field-0 c.args.segments
           (subst IsTrue (sym c.new_store.ensures.goes_on.tells) told) w.in-Ok.ensures.opened.settled (w.in-Ok.ensures.begun told sound history from is))
       | in-Err w ↦
           let stopped = w.in-Err.ensures.not_begun told sound history from is in
           subst (λ (s : Status). RunRan outside crash_states store k (IsNewStore store) old new history from s) (sym w.result-is)
-          (ran_early outside crash_states g.met.P.Platform.counts store k (IsNewStore store) history from no_line no_reply old new w.in-Err.status w.in-Err.ensures.early stopped.0 stopped.1)
+          (ran_early outside crash_states g.met.P.Platform.counts store k (IsNewStore store) history from untaken no_line no_reply no_next old new w.in-Err.status w.in-Err.ensures.early stopped.0 stopped.1)
     ]
 
 pub returns-clause-intact : goal.returns-clause-intact

@@ -42,10 +42,12 @@ returns-in-Some-Format-clause-served g c =
     record {
       served = served_none came (g.K.Sink.content c.args.sink.now) c.format.result (stop_at_once (g.P.Platform.outside old) (g.P.Platform.outside new) c.format.result c.format.ensures.early);
       start = λ segments is. absurd (start_not_format words segments c.in-Some-Format.segments is said);
-      format = λ segments is.
-          subst
-          (λ (n : ℕ). RunOver g.P.Platform.outside g.P.Platform.crash_states (plain_store c.args.secret.now n) (no_conversation came) (IsNewStore (plain_store c.args.secret.now n)) old new c.format.result)
-          (one_format words c.in-Some-Format.segments segments said is) (c.format.ensures.ran came came (no_conversation came) refl refl);
+      format = λ segments is. (
+        refl,
+        subst
+            (λ (n : ℕ). RunOver g.P.Platform.outside g.P.Platform.crash_states (plain_store c.args.secret.now n) (no_conversation came) (IsNewStore (plain_store c.args.secret.now n)) old new c.format.result)
+            (one_format words c.in-Some-Format.segments segments said is) (c.format.ensures.ran came came (no_conversation came) refl refl refl refl),
+      );
       reopened = λ is. absurd (format_not_run words c.in-Some-Format.segments said is);
     }
 

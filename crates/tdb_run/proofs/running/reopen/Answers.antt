@@ -7,6 +7,7 @@ use Rattle.tdb_run.proofs.Early.{keeps_platform, no_conversation, served_none, s
 use Rattle.tdb_run.proofs.Over.{caused_since, keeps_since, ran_over, whole_over}
 use Rattle.tdb_run.proofs.RunRan.{ran_early}
 use Rattle.tdb_run.proofs.Whole.{only_sealed_along}
+use Rattle.tdb_run.proofs.Refusing.{script_not_refused}
 use Rattle.tdb_run.proofs.running.reopen.Goals as goal
 
 pub returns-in-Ok-clause-served : goal.returns-in-Ok-clause-served
@@ -54,7 +55,7 @@ returns-in-Err-clause-served g c =
       served_none came (g.K.Sink.content c.args.sink.now) status (stop_at_once (outside old) (outside new) status (stop_without_script (outside old) (outside new) status early)),
       λ store secret told sound history from is.
           let stopped = c.in-Err.ensures.not_begun store secret told sound history from is in
-          ran_early outside g.P.Platform.crash_states g.met.P.Platform.counts store (no_conversation came) (IsReopened store) history from refl refl old new status early stopped.0 stopped.1,
+          ran_early outside g.P.Platform.crash_states g.met.P.Platform.counts store (no_conversation came) (IsReopened store) history from refl refl refl refl old new status early stopped.0 stopped.1,
     )
 
 pub returns-in-Err-clause-sealed : goal.returns-in-Err-clause-sealed
@@ -64,3 +65,6 @@ pub returns-in-Err-clause-keeps : goal.returns-in-Err-clause-keeps
 returns-in-Err-clause-keeps g c =
     keeps_platform (g.S.Source.content c.args.source.now) (g.K.Sink.content c.args.sink.now) (plain_store c.args.secret.now 0) (g.P.Platform.outside c.args.platform.now) (g.P.Platform.outside c.open_store.new.platform)
     (c.open_store.ensures.goes_on (plain_store c.args.secret.now 0) refl)
+
+pub returns-in-Ok-clause-refused : goal.returns-in-Ok-clause-refused
+returns-in-Ok-clause-refused g c was = absurd (script_not_refused c.serve.result c.serve.ensures.script was)

@@ -1,6 +1,8 @@
-use Rattle.tdb_run.proofs.RunEnding.{outcome_of}
+use Rattle.std.proofs.Common.{sym, subst, ◌∙◌}
+use Rattle.tdb_run.specs.Served.{WasRefused}
 use Rattle.tdb_run.specs.declared.status.Success.TheVariants.{Formatted}
 use Rattle.tdb_run.proofs.Successes.{done_before}
+use Rattle.tdb_run.proofs.Refusing.{refused_before}
 use Rattle.tdb_run.proofs.running.run.Goals as goal
 
 pub returns-clause-formatted : goal.returns-clause-formatted
@@ -9,6 +11,20 @@ returns-clause-formatted g c segments is =
     (done_before (g.K.Sink.content c.outcome-status.new.sink) (g.K.Sink.content c.put_last_line-status.new.sink) c.outcome-status.result c.put_last_line-status.result (Formatted segments) c.put_last_line-status.ensures.ends is)
 
 pub returns-clause-outcome : goal.returns-clause-outcome
-returns-clause-outcome g c =
-    outcome_of g.P.Platform.outside g.P.Platform.crash_states _ c.args.secret.now (g.S.Source.content c.args.source.now) (g.S.Source.content c.outcome-status.new.source) (g.K.Sink.content c.args.sink.now)
-    (g.K.Sink.content c.outcome-status.new.sink) (g.K.Sink.content c.put_last_line-status.new.sink) c.outcome-status.ensures.keeps.sink_tells c.args.platform c.outcome-status.new.platform c.outcome-status.result c.outcome-status.ensures.served c.put_last_line-status.result c.put_last_line-status.ensures.ends
+returns-clause-outcome g c = record {
+  meant = c.outcome-status.result;
+  middle = g.K.Sink.content c.outcome-status.new.sink;
+  still = c.outcome-status.ensures.keeps.sink_tells;
+  served = c.outcome-status.ensures.served;
+  last_line = c.put_last_line-status.ensures.ends;
+}
+
+pub returns-clause-refused : goal.returns-clause-refused
+returns-clause-refused g c was =
+    let same = refused_before (g.K.Sink.content c.outcome-status.new.sink) (g.K.Sink.content c.put_last_line-status.new.sink) c.outcome-status.result c.put_last_line-status.result c.put_last_line-status.ensures.ends was in
+    c.outcome-status.ensures.refused (subst WasRefused (sym same) was)
+
+pub returns-clause-refused_new : goal.returns-clause-refused_new
+returns-clause-refused_new g c is was =
+    let same = refused_before (g.K.Sink.content c.outcome-status.new.sink) (g.K.Sink.content c.put_last_line-status.new.sink) c.outcome-status.result c.put_last_line-status.result c.put_last_line-status.ensures.ends was in
+    sym same ∙ c.outcome-status.ensures.refused_new is (subst WasRefused (sym same) was)

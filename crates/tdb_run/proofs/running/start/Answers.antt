@@ -8,6 +8,7 @@ use Rattle.tdb_run.proofs.Early.{no_conversation, served_none, stop_at_once, sto
 use Rattle.tdb_run.proofs.Over.{ran_over, whole_over}
 use Rattle.tdb_run.proofs.RunRan.{ran_early}
 use Rattle.tdb_run.proofs.Whole.{new_store_intact, only_sealed_along}
+use Rattle.tdb_run.proofs.Refusing.{script_not_refused}
 use Rattle.tdb_run.proofs.running.start.Goals as goal
 
 pub returns-in-Ok-clause-served : goal.returns-in-Ok-clause-served
@@ -46,10 +47,13 @@ returns-in-Err-clause-served g c =
       served_none came (g.K.Sink.content c.args.sink.now) status (stop_at_once (outside old) (outside new) status (stop_without_script (outside old) (outside new) status early)),
       λ told sound history from is.
           let stopped = c.in-Err.ensures.not_begun told sound history from is in
-          ran_early outside g.P.Platform.crash_states g.met.P.Platform.counts store (no_conversation came) (IsNewStore store) history from refl refl old new status early stopped.0 stopped.1,
+          ran_early outside g.P.Platform.crash_states g.met.P.Platform.counts store (no_conversation came) (IsNewStore store) history from refl refl refl refl old new status early stopped.0 stopped.1,
     )
 
 pub returns-in-Err-clause-intact : goal.returns-in-Err-clause-intact
 returns-in-Err-clause-intact g c store secret told =
     new_store_intact store (plain_store c.args.secret.now c.args.segments) (g.P.Platform.outside c.args.platform.now) (g.P.Platform.outside c.new_store.new.platform) secret (c.new_store.ensures.untouched told)
     (c.new_store.ensures.whole told)
+
+pub returns-in-Ok-clause-refused : goal.returns-in-Ok-clause-refused
+returns-in-Ok-clause-refused g c was = absurd (script_not_refused c.serve.result c.serve.ensures.script was)

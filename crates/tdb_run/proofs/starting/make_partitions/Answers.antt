@@ -1,6 +1,10 @@
 use Rattle.tdb_base.specs.declared.suite.Suite.TheVariants.{Plain}
 use Rattle.tdb_model.specs.Opening.{opening_changes}
 use Rattle.tdb_run.proofs.Commits.{committed, may_be_committed}
+use Rattle.std.proofs.Common.{subst}
+use Rattle.tdb_model.specs.declared.error.CommitError.{CommitError}
+use Rattle.tdb_run.specs.Making.{status_after_commit}
+use Rattle.tdb_run.specs.Served.{WasRefused}
 use Rattle.tdb_run.proofs.starting.make_partitions.Goals as goal
 
 pub returns-in-Ok-clause-committed : goal.returns-in-Ok-clause-committed
@@ -17,3 +21,7 @@ returns-in-Err-clause-stopped g c told sound history from is at =
 
 pub returns-in-Err-clause-whole : goal.returns-in-Err-clause-whole
 returns-in-Err-clause-whole g c told sound history from log knows = c.in-Err.ensures.commit.whole told sound history from log knows
+
+pub returns-in-Err-clause-stays : goal.returns-in-Err-clause-stays
+returns-in-Err-clause-stays g c was =
+    c.in-Err.ensures.commit.platform_stays (λ fault. subst (λ (e : CommitError). WasRefused (status_after_commit e)) fault (subst WasRefused c.status_of_commit.ensures was))

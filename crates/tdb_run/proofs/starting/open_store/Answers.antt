@@ -13,6 +13,8 @@ use Rattle.tdb_run.specs.declared.status.Status.{Status}
 use Rattle.tdb_run.proofs.RunBeginning.{begun_after, if_err, if_ok_both, intact_read, not_begun_after, not_begun_read, reads_goes}
 use Rattle.tdb_run.proofs.Over.{goes_along}
 use Rattle.tdb_run.proofs.Reopening.{explained_earlier, explained_error, over_opened}
+use Rattle.tdb_overlay.specs.Reading.{OnlyReads}
+use Rattle.tdb_run.specs.Served.{WasRefused}
 use Rattle.tdb_run.proofs.starting.open_store.Goals as goal
 
 pub returns-in-Ok-clause-begun : goal.returns-in-Ok-clause-begun
@@ -84,3 +86,13 @@ returns-in-Err-clause-not_begun g c store secret told sound history from is =
           (λ damage same. c.in-Err.ensures.tampered damage (ap (λ (e : OpenError). Err e) same) store history from (record { tells = told; keys = secret ∙ sym c.new-keys.ensures; unforged = sound; log = is }))
           (λ place same. c.in-Err.ensures.form place (ap (λ (e : OpenError). Err e) same) store history from (record { tells = told; keys = secret ∙ sym c.new-keys.ensures; unforged = sound; log = is }))),
     )
+
+pub returns-in-Ok-clause-refused : goal.returns-in-Ok-clause-refused
+returns-in-Ok-clause-refused g c =
+    let outside = g.P.Platform.outside in
+    let crash_states = g.P.Platform.crash_states in
+    let old = c.args.platform.now in
+    let mid = c.recover.new.platform in
+    let new = c.with_partitions.new.platform in
+    if_err (λ (e : Status). WasRefused e → new ≡ mid) (λ (e : Status). WasRefused e → new ≡ mid) (λ (e : Status). WasRefused e → OnlyReads outside crash_states old new) c.with_partitions.result
+    (λ e is stays same was. subst (OnlyReads outside crash_states old) (sym (stays was)) c.recover.ensures.reads) c.with_partitions.ensures.stays c.with_partitions.ensures.stays
