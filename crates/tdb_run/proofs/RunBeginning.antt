@@ -78,7 +78,7 @@ module _ {D : Type 0} (outside : D → Outside) (crash_states : D → CrashState
         maybe = [];
         of_opening = inl refl;
         log = (from, inl (subst (λ (h : History). IsLog (outside mid).trace.written store (outside mid).anchor h from) (sym (append-nil history)) (log_read store history from told is)));
-        stops = inl (reads.left.each, refl, refl);
+        stops = inl (reads.left.each, refl);
       }
 
       module _ (new : D) where

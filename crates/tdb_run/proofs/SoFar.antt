@@ -28,24 +28,33 @@ abbrev pub leaves_weaker : {D : Type 0} (outside : D → Outside) (crash_states 
 leaves_weaker outside crash_states old new P Q l weaker = record { later = l.later; each = λ i a left. weaker i a (l.each i a left); before = l.before; keeps = l.keeps }
 
 -- a session goes on by one line
-pub session_more : (store : Store) (begun mid new : Outside) (first : ScriptState) (lines : List (List ℕ)) (answers : List Answer) (last : ScriptState) (line : List ℕ) (given : Answer)
-    → Session store begun first lines answers mid last → Extends mid.trace new.trace → AnswersBetween store mid new last line given
-    → Session store begun first (lines ++ line ∷ []) (answers ++ given ∷ []) new given.next
-session_more store begun mid new first [] [] last line given so_far grows answered = (
+pub session_more : (store : Store) (begun mid new : Outside) (history : History) (first : ScriptState) (lines : List (List ℕ)) (answers : List Answer) (last : ScriptState) (line : List ℕ) (given : Answer)
+    → Session store begun history first lines answers mid last → Extends mid.trace new.trace → AnswersBetween store mid new last line given
+    → IsLog new.trace.written store new.anchor (history ++ (added_by answers ++ given.added)) given.next.store
+    → Session store begun history first (lines ++ line ∷ []) (answers ++ given ∷ []) new given.next
+session_more store begun mid new history first [] [] last line given so_far grows answered log = (
   new,
   subst (λ (o : Outside). Extends o.trace new.trace) so_far.1 grows,
   subst (λ (o : Outside). AnswersBetween store o new first line given) so_far.1 (subst (λ (s : ScriptState). AnswersBetween store mid new s line given) so_far.0 answered),
+  log,
   (refl, refl),
 )
-session_more store begun mid new first (l ∷ lines) (g ∷ answers) last line given so_far grows answered =
-    (so_far.0, so_far.1, so_far.2, session_more store so_far.0 mid new g.next lines answers last line given so_far.3 grows answered)
-session_more store begun mid new first [] (g ∷ answers) last line given so_far grows answered = absurd so_far
-session_more store begun mid new first (l ∷ lines) [] last line given so_far grows answered = absurd so_far
+session_more store begun mid new history first (l ∷ lines) (g ∷ answers) last line given so_far grows answered log = (
+  so_far.0,
+  so_far.1,
+  so_far.2,
+  so_far.3,
+  session_more store so_far.0 mid new (history ++ g.added) g.next lines answers last line given so_far.4 grows answered
+  (subst (λ (h : History). IsLog new.trace.written store new.anchor h given.next.store)
+  (ap (λ (h : History). history ++ h) (append_assoc g.added (added_by answers) given.added) ∙ sym (append_assoc history g.added (added_by answers ++ given.added))) log),
+)
+session_more store begun mid new history first [] (g ∷ answers) last line given so_far grows answered log = absurd so_far
+session_more store begun mid new history first (l ∷ lines) [] last line given so_far grows answered log = absurd so_far
 
 pub record SoFar {D : Type 0} (outside : D → Outside) (crash_states : D → CrashStates) (store : Store) (old mid : D) (history : History) (first : ScriptState) (lines : List (List ℕ)) (replies : List Reply) (kept : memory.Store) (made : session.Session) : Type 0 where
   pub answers : List Answer
   pub last : ScriptState
-  pub session : Session store (outside old) first lines answers (outside mid) last
+  pub session : Session store (outside old) history first lines answers (outside mid) last
   pub replies_are : map (λ given. given.reply) answers ≡ replies
   pub log : IsLog (outside mid).trace.written store (outside mid).anchor (history ++ added_by answers) last.store
   pub at : IsScriptAt (outside mid) kept made last
@@ -93,14 +102,14 @@ module _ {D : Type 0} (outside : D → Outside) (crash_states : D → CrashState
         → SoFar outside crash_states store old new history first (lines ++ line ∷ []) (replies ++ reply ∷ []) kept' made'
     so_far_more line reply kept' made' a =
         let added : added_by s.answers ++ a.given.added ≡ added_by (s.answers ++ a.given ∷ []) = sym (added_more s.answers a.given) in
+        let log : IsLog (outside new).trace.written store (outside new).anchor (history ++ (added_by s.answers ++ a.given.added)) a.given.next.store =
+        subst (λ (h : History). IsLog (outside new).trace.written store (outside new).anchor h a.given.next.store) (append_assoc history (added_by s.answers) a.given.added) a.log in
         record {
           answers = s.answers ++ a.given ∷ [];
           last = a.given.next;
-          session = session_more store (outside old) (outside mid) (outside new) first lines s.answers s.last line a.given s.session grows a.answers;
+          session = session_more store (outside old) (outside mid) (outside new) history first lines s.answers s.last line a.given s.session grows a.answers log;
           replies_are = map-append (λ (given : Answer). given.reply) s.answers (a.given ∷ []) ∙ ap (λ (rs : List Reply). rs ++ a.given.reply ∷ []) s.replies_are ∙ ap (λ (r : Reply). replies ++ r ∷ []) a.reply_is;
-          log =
-              subst (λ (h : History). IsLog (outside new).trace.written store (outside new).anchor (history ++ h) a.given.next.store) added
-              (subst (λ (h : History). IsLog (outside new).trace.written store (outside new).anchor h a.given.next.store) (append_assoc history (added_by s.answers) a.given.added) a.log);
+          log = subst (λ (h : History). IsLog (outside new).trace.written store (outside new).anchor (history ++ h) a.given.next.store) added log;
           at = a.at;
           any_moment =
               subst (λ (h : History). LeavesOnly outside crash_states old new (λ i b. HasPartOf (outside new).trace.written store history h b)) added (part_along a.given.added a.any_moment);

@@ -8,8 +8,9 @@ use Rattle.tdb_stream.specs.SinkContent.{SinkContent}
 use Rattle.tdb_stream.specs.SourceContent.{SourceContent}
 use Rattle.tdb_chunk.specs.Formatting.{plain_store}
 use Rattle.tdb_overlay.specs.Found.{Store}
+use Rattle.tdb_overlay.specs.Log.{IsLog}
 use Rattle.tdb_overlay.specs.StoreState.{StoreState}
-use Rattle.tdb_run.specs.Begin.{IsEarlyStop, IsExplainedStop, IsNewStore, IsReopened, LeavesLogOrNothing, Opens, OverStart}
+use Rattle.tdb_run.specs.Begin.{IsEarlyStop, IsExplainedStop, IsNewStore, IsReopened, LeavesLog, LeavesLogOrNothing, Opens, OverStart}
 use Rattle.tdb_run.specs.Command.{IsFormat, IsRun, IsStart}
 use Rattle.tdb_run.specs.LastLine.{EndsWith}
 use Rattle.tdb_run.specs.LineResult.{HasAllOf}
@@ -39,16 +40,17 @@ abbrev pub IsWithoutScript : Status → Type 0
 IsWithoutScript (Done (Formatted segments)) = Unit {0}
 IsWithoutScript status = ⊥
 
--- The lines were a session from the state in which the store was opened.
-pub record HasScript {came gone : SourceContent} (store : Store) (c : Conversation came gone) (opens : StoreState → History → StoreState → Type 0) (old new : Outside) (from : StoreState) (status : Status) (begun : History) (answers : List Answer) (maybe : History) : Type 0 where
+-- The lines were a session from the state in which the store was opened, and from the log that the anchor had then.
+pub record HasScript {came gone : SourceContent} (store : Store) (c : Conversation came gone) (opens : StoreState → History → StoreState → Type 0) (old new : Outside) (history : History) (from : StoreState) (status : Status) (begun : History) (answers : List Answer) (maybe : History) : Type 0 where
   pub opened : StoreState
   pub begins : opens from begun opened
   pub started : Outside
   pub starts : Extends old.trace started.trace
+  pub begun_log : IsLog started.trace.written store started.anchor (history ++ begun) opened
   pub moment : Outside
   pub ends : Extends moment.trace new.trace
   pub last : ScriptState
-  pub session : Session store started (script_at opened) c.lines answers moment last
+  pub session : Session store started (history ++ begun) (script_at opened) c.lines answers moment last
   pub of_next : IsOfNext store moment new last c.unanswered c.next maybe
   pub none_at_done : NoneAtDone status maybe
   pub ends_so : IsScriptStatus status
@@ -76,15 +78,18 @@ pub record HasNoScript {came gone : SourceContent} (c : Conversation came gone) 
 
 -- The commits before the script and those of its answers stand in the log of the anchor, and of each anchor that a stop may
 -- leave; behind them stands at most one more. Since the anchor was told, a stop leaves no log but with a first part of these.
+-- Only a run that didn't come to its script may not have been told it.
 pub record RunRan {D : Type 0} (outside : D → Outside) (crash_states : D → CrashStates) (store : Store) {came gone : SourceContent} (c : Conversation came gone) (opens : StoreState → History → StoreState → Type 0) (old new : D) (history : History) (from : StoreState) (status : Status) : Type 0 where
   pub begun : History
   pub answers : List Answer
   pub maybe : History
   pub replies : map (λ given. given.reply) answers ≡ c.replies
-  pub script : HasScript store c opens (outside old) (outside new) from status begun answers maybe ⊎ HasNewStore c opens from status begun answers maybe ⊎ HasNoScript c opens from status begun answers maybe
+  pub ran :
+      ((HasScript store c opens (outside old) (outside new) history from status begun answers maybe ⊎ HasNewStore c opens from status begun answers maybe)
+      × LeavesLog outside crash_states store old new history (begun ++ added_by answers) maybe)
+      ⊎ (HasNoScript c opens from status begun answers maybe × LeavesLogOrNothing outside crash_states store old new history maybe)
   pub explained : IsExplainedStop store (outside old) (outside new) from status
   pub log : HasAllOf (outside new).trace.written store history (begun ++ added_by answers) maybe (outside new).anchor
-  pub stops : LeavesLogOrNothing outside crash_states store old new history (begun ++ added_by answers) maybe
 
 -- the same of each log that the anchor had at the start
 abbrev pub RunOver : {D : Type 0} → (D → Outside) → (D → CrashStates) → Store → {came gone : SourceContent} → Conversation came gone → Opens → D → D → Status → Type 0

@@ -57,7 +57,7 @@ pub record ScriptRan {D : Type 0} (outside : D → Outside) (crash_states : D �
   pub answers : List Answer
   pub moment : Outside
   pub last : ScriptState
-  pub session : Session store (outside old) first c.lines answers moment last
+  pub session : Session store (outside old) history first c.lines answers moment last
   pub goes_on : Extends moment.trace (outside new).trace
   pub replies : map (λ given. given.reply) answers ≡ c.replies
   pub maybe : History

@@ -1,4 +1,4 @@
--- The session of a run: its lines, one after another, each answered over what the device then showed.
+-- The session of a run: its lines, one after another, each answered by the log that the anchor then had.
 use Rattle.std.specs.Prelude.{◌≡◌, ℕ, List, [], ◌∷◌, ◌++◌, Some}
 use Rattle.std.specs.FinMap.{get}
 use Rattle.tdb_base.specs.declared.piece.Piece.{Piece}
@@ -8,6 +8,7 @@ use Rattle.tdb_model.specs.State.{State, Partition}
 use Rattle.tdb_platform.specs.Outside.{Outside}
 use Rattle.tdb_overlay.specs.Covering.{IsRecordOfChunk}
 use Rattle.tdb_overlay.specs.Found.{Store, in_trace}
+use Rattle.tdb_overlay.specs.Log.{IsLog}
 use Rattle.tdb_overlay.specs.Reading.{HasRead}
 use Rattle.tdb_overlay.specs.Required.{IsRequired, IsDamaged}
 use Rattle.tdb_run.specs.Script.{Answer, Answers, ScriptState}
@@ -29,13 +30,17 @@ pub record IsDamagedObject (store : Store) (old new : Outside) (state : State) (
 abbrev pub AnswersBetween : Store → Outside → Outside → ScriptState → List ℕ → Answer → Type 0
 AnswersBetween store old new state line given = Answers store (λ id. IsDamagedObject store old new state.store.chunks id) state line given
 
--- From a first moment and state on, these lines are given these answers. The last moment and state are those of the last answer.
-abbrev pub Session : Store → Outside → ScriptState → List (List ℕ) → List Answer → Outside → ScriptState → Type 0
-Session store begun first [] [] now last = (last ≡ first) × (now ≡ begun)
-Session store begun first (line ∷ lines) (given ∷ answers) now last =
-    (mid : Outside) × Extends begun.trace mid.trace × AnswersBetween store begun mid first line given × Session store mid given.next lines answers now last
-Session store begun first [] (given ∷ answers) now last = ⊥
-Session store begun first (line ∷ lines) [] now last = ⊥
+-- From a first moment, history and state on, these lines are given these answers. Each is given between two moments, and at
+-- the second one the log of the anchor has the commit of the answer behind the history so far, and the answer's state.
+-- The last moment and state are those of the last answer.
+abbrev pub Session : Store → Outside → History → ScriptState → List (List ℕ) → List Answer → Outside → ScriptState → Type 0
+Session store begun history first [] [] now last = (last ≡ first) × (now ≡ begun)
+Session store begun history first (line ∷ lines) (given ∷ answers) now last =
+    (mid : Outside) × Extends begun.trace mid.trace × AnswersBetween store begun mid first line given
+    × IsLog mid.trace.written store mid.anchor (history ++ given.added) given.next.store
+    × Session store mid (history ++ given.added) given.next lines answers now last
+Session store begun history first [] (given ∷ answers) now last = ⊥
+Session store begun history first (line ∷ lines) [] now last = ⊥
 
 -- the commits of these answers, in their order
 abbrev pub added_by : List Answer → History
