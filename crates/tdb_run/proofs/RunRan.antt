@@ -115,32 +115,34 @@ module _ {D : Type 0} (outside : D → Outside) (crash_states : D → CrashState
           answers = r.answers;
           maybe = r.maybe;
           replies = r.replies;
-          ran = inl
-              (inl (
-              record {
-                opened = b.opened;
-                begins = b.begins;
-                started = outside mid;
-                starts = starts;
-                begun_log = b.log;
-                moment = r.moment;
-                ends = r.goes_on;
-                last = r.last;
-                session = r.session;
-                of_next = r.of_next;
-                none_at_done = r.none_at_done;
-                ends_so = ends;
-              }
-              ), record {
-                left = λ i a left. all_behind written store history b.begun (added_by r.answers) r.maybe a (r.left i a left);
-                any_moment =
-                    settles_then old mid new (λ i a. HasPartOf (outside mid).trace.written store history b.begun a) (λ i a. HasPartOf written store (history ++ b.begun) (added_by r.answers ++ r.maybe) a)
-                    (λ i a. HasPartOf written store history (surely ++ r.maybe) a) b.any_moment r.any_moment
-                    (λ i a p. subst (λ (h : History). HasPartOf written store history h a) (sym (append_assoc b.begun (added_by r.answers) r.maybe))
-                    (part_of_more (outside mid).trace (outside new).trace store history b.begun (added_by r.answers ++ r.maybe) a grows p))
-                    (λ i a p. subst (λ (h : History). HasPartOf written store history h a) (sym (append_assoc b.begun (added_by r.answers) r.maybe))
-                    (part_behind written store history b.begun (added_by r.answers ++ r.maybe) a p));
-              });
+          ran = inl (
+            inl (
+                record {
+                  opened = b.opened;
+                  begins = b.begins;
+                  started = outside mid;
+                  starts = starts;
+                  begun_log = b.log;
+                  moment = r.moment;
+                  ends = r.goes_on;
+                  last = r.last;
+                  session = r.session;
+                  of_next = r.of_next;
+                  none_at_done = r.none_at_done;
+                  ends_so = ends;
+                }
+                ),
+            record {
+              left = λ i a left. all_behind written store history b.begun (added_by r.answers) r.maybe a (r.left i a left);
+              any_moment =
+                  settles_then old mid new (λ i a. HasPartOf (outside mid).trace.written store history b.begun a) (λ i a. HasPartOf written store (history ++ b.begun) (added_by r.answers ++ r.maybe) a)
+                  (λ i a. HasPartOf written store history (surely ++ r.maybe) a) b.any_moment r.any_moment
+                  (λ i a p. subst (λ (h : History). HasPartOf written store history h a) (sym (append_assoc b.begun (added_by r.answers) r.maybe))
+                  (part_of_more (outside mid).trace (outside new).trace store history b.begun (added_by r.answers ++ r.maybe) a grows p))
+                  (λ i a p. subst (λ (h : History). HasPartOf written store history h a) (sym (append_assoc b.begun (added_by r.answers) r.maybe))
+                  (part_behind written store history b.begun (added_by r.answers ++ r.maybe) a p));
+            },
+          );
           explained = script_explained store (outside old) (outside new) from status ends;
           log = all_behind written store history b.begun (added_by r.answers) r.maybe (outside new).anchor r.log;
         }
@@ -173,13 +175,15 @@ module _ {D : Type 0} (outside : D → Outside) (crash_states : D → CrashState
             answers = [];
             maybe = [];
             replies = sym no_reply;
-            ran = inl
-                (inr (record { opened = b.opened; begins = b.begins; untaken = untaken; no_line = no_line; no_next = no_next; no_answer = refl; none = refl; ends_so = tt }), record {
-                  left = λ i a left. subst (HasAllOf written store history (b.begun ++ []) []) (sym (settled told i a left)) log;
-                  any_moment =
-                      settles_weaker old new (λ i a. HasPartOf written store history b.begun a) (λ i a. HasPartOf written store history ((b.begun ++ []) ++ []) a) b.any_moment
-                      (λ i a p. subst (λ (h : History). HasPartOf written store history h a) (sym (append-nil (b.begun ++ []) ∙ none)) p);
-                });
+            ran = inl (
+              inr (record { opened = b.opened; begins = b.begins; untaken = untaken; no_line = no_line; no_next = no_next; no_answer = refl; none = refl; ends_so = tt }),
+              record {
+                left = λ i a left. subst (HasAllOf written store history (b.begun ++ []) []) (sym (settled told i a left)) log;
+                any_moment =
+                    settles_weaker old new (λ i a. HasPartOf written store history b.begun a) (λ i a. HasPartOf written store history ((b.begun ++ []) ++ []) a) b.any_moment
+                    (λ i a p. subst (λ (h : History). HasPartOf written store history h a) (sym (append-nil (b.begun ++ []) ∙ none)) p);
+              },
+            );
             explained = tt;
             log = log;
           }

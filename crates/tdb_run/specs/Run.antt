@@ -1,5 +1,5 @@
 -- What a whole run has come to, by the log that the anchor had at its start.
-use Rattle.std.specs.Prelude.{◌≡◌, ◌⊎◌, ℕ, List, [], ◌++◌, map, None}
+use Rattle.std.specs.Prelude.{◌≡◌, ◌≢◌, ◌⊎◌, ◌↔◌, ℕ, List, [], ◌++◌, map, None, IsTrue, true, false}
 use Rattle.tdb_base.specs.Trace.{Extends}
 use Rattle.tdb_model.specs.Apply.{History}
 use Rattle.tdb_platform.specs.Outside.{Outside}
@@ -9,14 +9,16 @@ use Rattle.tdb_stream.specs.SourceContent.{SourceContent}
 use Rattle.tdb_chunk.specs.Formatting.{plain_store}
 use Rattle.tdb_overlay.specs.Found.{Store}
 use Rattle.tdb_overlay.specs.Log.{IsLog}
+use Rattle.tdb_overlay.specs.Reading.{OnlyReads}
 use Rattle.tdb_overlay.specs.StoreState.{StoreState}
 use Rattle.tdb_run.specs.Begin.{IsEarlyStop, IsExplainedStop, IsNewStore, IsReopened, LeavesLog, LeavesLogOrNothing, Opens, OverStart}
-use Rattle.tdb_run.specs.Command.{IsFormat, IsRun, IsStart}
+use Rattle.tdb_run.specs.Command.{IsFormat, IsNoCommand, IsOfNewStore, IsRun, IsStart}
 use Rattle.tdb_run.specs.LastLine.{EndsWith}
 use Rattle.tdb_run.specs.LineResult.{HasAllOf}
+use Rattle.tdb_run.specs.OneLine.{Keeps}
 use Rattle.tdb_run.specs.Replies.{Conversation}
 use Rattle.tdb_run.specs.Script.{Answer, ScriptState, script_at}
-use Rattle.tdb_run.specs.Served.{IsOfNext, IsScriptStatus, NoneAtDone, Served}
+use Rattle.tdb_run.specs.Served.{IsCaused, IsOfNext, IsScriptStatus, NoneAtDone, Served, WasRefused}
 use Rattle.tdb_run.specs.Session.{Session, added_by}
 use Rattle.tdb_run.specs.declared.status.Success.TheVariants.{Script, Formatted}
 use Rattle.tdb_run.specs.declared.status.Status.{Status}
@@ -102,11 +104,22 @@ pub record RunServed {D : Type 0} (outside : D → Outside) (crash_states : D �
   pub format : (segments : ℕ) → IsFormat words segments → (served.conversation.taken ≡ []) × RunOver outside crash_states (plain_store secret segments) served.conversation (IsNewStore (plain_store secret segments)) old new status
   pub reopened : IsRun words → (store : Store) → store.secret ≡ secret → RunOver outside crash_states store served.conversation (IsReopened store) old new status
 
+-- How a run was to end when it came to its last line, by its words, by the anchor's count and by what failed before.
+pub record IsMeant {D : Type 0} (outside : D → Outside) (crash_states : D → CrashStates) (words : List (List ℕ)) (came gone : SourceContent) (before after : SinkContent) (old new : D) (meant : Status) : Type 0 where
+  pub usage : (meant ≡ Usage) ↔ IsNoCommand words
+  pub already : meant ≡ AnchorCount true → IsOfNewStore words × (IsTrue (outside old).tells → (outside old).anchor.0 ≢ 0)
+  pub unformatted : meant ≡ AnchorCount false → IsRun words × (IsTrue (outside old).tells → (outside old).anchor.0 ≡ 0)
+  pub formatted : (segments : ℕ) → meant ≡ Done (Formatted segments) → IsFormat words segments
+  pub scripts : meant ≡ Done Script → (segments : ℕ) → IsFormat words segments → ⊥
+  pub refused : WasRefused meant → OnlyReads outside crash_states old new
+  pub caused : IsCaused came gone before after (outside old) (outside new) meant
+  pub kept : Keeps came gone before after (outside old) (outside new)
+
 -- What a command's run has come to: how it was to end when it came to its last line, and how it ended by that.
 pub record RunOutcome {D : Type 0} (outside : D → Outside) (crash_states : D → CrashStates) (words : List (List ℕ)) (secret : List ℕ) (came gone : SourceContent) (before after : SinkContent) (old new : D) (status : Status) : Type 0 where
   pub meant : Status
   pub middle : SinkContent
-  pub still : middle.tells ≡ before.tells
+  pub is_meant : IsMeant outside crash_states words came gone before middle old new meant
   pub served : RunServed outside crash_states words secret came gone before middle old new meant
   pub last_line : EndsWith middle after meant status
 

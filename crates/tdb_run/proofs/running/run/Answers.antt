@@ -14,7 +14,16 @@ pub returns-clause-outcome : goal.returns-clause-outcome
 returns-clause-outcome g c = record {
   meant = c.outcome-status.result;
   middle = g.K.Sink.content c.outcome-status.new.sink;
-  still = c.outcome-status.ensures.keeps.sink_tells;
+  is_meant = record {
+    usage = c.outcome-status.ensures.usage;
+    already = c.outcome-status.ensures.already;
+    unformatted = c.outcome-status.ensures.unformatted;
+    formatted = c.outcome-status.ensures.formatted;
+    scripts = c.outcome-status.ensures.scripts;
+    refused = λ was. (c.outcome-status.ensures.refused was).0;
+    caused = c.outcome-status.ensures.causes;
+    kept = c.outcome-status.ensures.keeps;
+  };
   served = c.outcome-status.ensures.served;
   last_line = c.put_last_line-status.ensures.ends;
 }
