@@ -45,8 +45,8 @@ session_more store begun mid new history first (l ∷ lines) (g ∷ answers) las
   so_far.2,
   so_far.3,
   session_more store so_far.0 mid new (history ++ g.added) g.next lines answers last line given so_far.4 grows answered
-  (subst (λ (h : History). IsLog new.trace.written store new.anchor h given.next.store)
-  (ap (λ (h : History). history ++ h) (append_assoc g.added (added_by answers) given.added) ∙ sym (append_assoc history g.added (added_by answers ++ given.added))) log),
+      (subst (λ (h : History). IsLog new.trace.written store new.anchor h given.next.store)
+      (ap (λ (h : History). history ++ h) (append_assoc g.added (added_by answers) given.added) ∙ sym (append_assoc history g.added (added_by answers ++ given.added))) log),
 )
 session_more store begun mid new history first [] (g ∷ answers) last line given so_far grows answered log = absurd so_far
 session_more store begun mid new history first (l ∷ lines) [] last line given so_far grows answered log = absurd so_far
