@@ -15,6 +15,7 @@ pub mod Making
 pub mod NoteChunks
 pub mod NotesCommits
 pub mod Over
+pub mod Partitions
 pub mod Ran
 pub mod ReadingLines
 pub mod Refusing

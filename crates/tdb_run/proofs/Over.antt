@@ -23,6 +23,7 @@ use Rattle.tdb_run.specs.ScriptServed.{ScriptServed, ScriptWhole}
 use Rattle.tdb_run.specs.Served.{IsCaused, IsScriptStatus}
 use Rattle.tdb_run.specs.declared.status.Status.{Status}
 use Rattle.tdb_run.specs.declared.status.Status.TheVariants.{Done, Usage, AnchorCount, Damaged, PlatformFault, SourceFault, SinkFault, Memory, End, Refused}
+use Rattle.tdb_run.proofs.Partitions.{OpensByRun}
 use Rattle.tdb_run.proofs.RunRan.{Counts, ran_script}
 use Rattle.tdb_run.proofs.Whole.{only_sealed_along, only_sealed_itself}
 
@@ -40,11 +41,11 @@ module _ {D : Type 0} (outside : D → Outside) (crash_states : D → CrashState
     earlier : IsSound store (outside new) → IsSound store (outside mid)
     earlier sound = IsUnforged-before (outside mid).trace (outside new).trace (commit_of (commit_key_of store.secret)) (numbered mid on) (two.grows on) sound
 
-  pub ran_over : {came gone : SourceContent} (c : Conversation came gone) → IsScriptStatus status → ScriptServed outside crash_states (store_of kept) c mid new kept status → RunOver outside crash_states store c opens old new status
-  ran_over c ends served told sound history from is =
+  pub ran_over : OpensByRun opens → {came gone : SourceContent} (c : Conversation came gone) → IsScriptStatus status → ScriptServed outside crash_states (store_of kept) c mid new kept status → RunOver outside crash_states store c opens old new status
+  ran_over by_run c ends served told sound history from is =
       let b = begun told (earlier told sound) history from is in
       let same : ScriptServed outside crash_states store c mid new kept status = subst (λ (s : Store). ScriptServed outside crash_states s c mid new kept status) b.0 served in
-      ran_script outside crash_states counts store c opens history from old mid new kept status (one.grows told) (two.grows (on told)) ends b.1 (same (on told) sound (history ++ b.1.begun) b.1.opened b.1.log b.1.at)
+      ran_script outside crash_states counts store c opens by_run history from old is mid new kept status (one.grows told) (two.grows (on told)) ends b.1 (same (on told) sound (history ++ b.1.begun) b.1.opened b.1.log b.1.at)
 
   pub whole_over : StaysIntact store (outside old) (outside mid) → ScriptWhole outside mid new (store_of kept) kept → StaysIntact store (outside old) (outside new)
   whole_over before_it whole told sound history from is intact =

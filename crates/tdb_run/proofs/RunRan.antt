@@ -11,7 +11,7 @@ use Rattle.tdb_overlay.specs.StoreState.{StoreState}
 use Rattle.tdb_overlay.proofs.LogLaws.{log_stays}
 use Rattle.tdb_chunk.specs.declared.store.Store as memory
 use Rattle.tdb_stream.specs.SourceContent.{SourceContent}
-use Rattle.tdb_run.specs.Begin.{HasBegun, HasNotBegun, IsEarlyStop, IsExplainedStop, Opens}
+use Rattle.tdb_run.specs.Begin.{HasBegun, HasNotBegun, HasUserPartitions, IsEarlyStop, IsExplainedStop, Opens}
 use Rattle.tdb_run.specs.LineResult.{HasAllOf, HasPartOf}
 use Rattle.tdb_run.specs.Replies.{Conversation}
 use Rattle.tdb_run.specs.Run.{IsBeforeScript, RunRan}
@@ -21,6 +21,7 @@ use Rattle.tdb_run.specs.Session.{added_by}
 use Rattle.tdb_run.specs.declared.status.Success.TheVariants.{Formatted}
 use Rattle.tdb_run.specs.declared.status.Status.{Status}
 use Rattle.tdb_run.specs.declared.status.Status.TheVariants.{Done, Usage, AnchorCount, Damaged, PlatformFault, SourceFault, SinkFault, Memory, End, Refused}
+use Rattle.tdb_run.proofs.Partitions.{AreOfRun, OpensByRun, are_both, next_of_run, partitions_kept, session_of_run}
 
 -- what a stop since a later moment may leave, one since an earlier moment may leave too
 abbrev pub Counts : {D : Type 0} → (D → Outside) → (D → CrashStates) → Type 0
@@ -102,12 +103,18 @@ module _ {D : Type 0} (outside : D → Outside) (crash_states : D → CrashState
   settles_weaker : (old new : D) (P R : Pairs) → Settles outside crash_states old new P → ((i : List ℕ) (a : Anchor) → P i a → R i a) → Settles outside crash_states old new R
   settles_weaker old new P R settled weaker = record { moment = settled.moment; later = settled.later; first = settled.first; rest = λ i a left. weaker i a (settled.rest i a left) }
 
-  module _ (store : Store) {came gone : SourceContent} (c : Conversation came gone) (opens : Opens) (history : History) (from : StoreState) where
+  module _ (store : Store) {came gone : SourceContent} (c : Conversation came gone) (opens : Opens) (by_run : OpensByRun opens) (history : History) (from : StoreState) (old : D)
+      (is : IsLog (outside old).trace.written store (outside old).anchor history from) where
+    -- partitions 1 and 2 in the logs that commits of a run leave
+    kept : (new : D) (added part rest : History) → AreOfRun added → HasUserPartitions from.chunks → (a : Anchor) (to : StoreState) → added ≡ part ++ rest → IsLog (outside new).trace.written store a (history ++ part) to
+        → HasUserPartitions to.chunks
+    kept new added part rest are has a to = partitions_kept (outside old).trace.written (outside new).trace.written store (outside old).anchor a history added part rest from to is are has
+
     -- a store that is open, and a script over it
-    pub ran_script : (old mid new : D) (kept : memory.Store) (status : Status) → Extends (outside old).trace (outside mid).trace → Extends (outside mid).trace (outside new).trace → IsScriptStatus status
-        → (b : HasBegun outside crash_states store opens old mid history from kept) → ScriptRan outside crash_states store c mid new (history ++ b.begun) (script_at b.opened) status
+    pub ran_script : (mid new : D) (at : memory.Store) (status : Status) → Extends (outside old).trace (outside mid).trace → Extends (outside mid).trace (outside new).trace → IsScriptStatus status
+        → (b : HasBegun outside crash_states store opens old mid history from at) → ScriptRan outside crash_states store c mid new (history ++ b.begun) (script_at b.opened) status
         → RunRan outside crash_states store c opens old new history from status
-    ran_script old mid new kept status starts grows ends b r =
+    ran_script mid new at status starts grows ends b r =
         let written : List WrittenPiece = (outside new).trace.written in
         let surely : History = b.begun ++ added_by r.answers in
         record {
@@ -145,13 +152,19 @@ module _ {D : Type 0} (outside : D → Outside) (crash_states : D → CrashState
           );
           explained = script_explained store (outside old) (outside new) from status ends;
           log = all_behind written store history b.begun (added_by r.answers) r.maybe (outside new).anchor r.log;
+          partitions = λ has a part rest to.
+              kept new (surely ++ r.maybe) part rest
+              (are_both surely r.maybe
+              (are_both b.begun (added_by r.answers) (by_run from b.begun b.opened b.begins) (session_of_run store (outside mid) (history ++ b.begun) (script_at b.opened) c.lines r.answers r.moment r.last r.session))
+              (next_of_run store r.moment (outside new) r.last c.unanswered c.next r.maybe r.of_next))
+              has a to;
         }
 
     module _ (untaken : c.taken ≡ []) (no_line : c.lines ≡ []) (no_reply : c.replies ≡ []) (no_next : c.next ≡ None) where
       -- a store that couldn't be opened
-      pub ran_early : (old new : D) (status : Status) → IsEarlyStop (outside old) (outside new) status → HasNotBegun outside crash_states store opens old new history from
+      pub ran_early : (new : D) (status : Status) → IsEarlyStop (outside old) (outside new) status → HasNotBegun outside crash_states store opens old new history from
           → IsExplainedStop store (outside old) (outside new) from status → RunRan outside crash_states store c opens old new history from status
-      ran_early old new status early b explained = record {
+      ran_early new status early b explained = record {
         begun = [];
         answers = [];
         maybe = b.maybe;
@@ -161,12 +174,13 @@ module _ {D : Type 0} (outside : D → Outside) (crash_states : D → CrashState
             (record { of_opening = b.of_opening; untaken = untaken; no_line = no_line; no_next = no_next; no_answer = refl; none = refl; ends_so = early_before (outside old) (outside new) status early }, b.stops);
         explained = explained;
         log = b.log;
+        partitions = λ has a part rest to. kept new b.maybe part rest (⊎_elim (λ none. subst AreOfRun (sym none) tt) (λ some. by_run from b.maybe some.0 some.1) b.of_opening) has a to;
       }
 
       -- a new store, and no script
-      pub ran_format : (old new : D) (kept : memory.Store) (segments : ℕ) → IsTrue (outside new).tells → IsSettled outside crash_states new → HasBegun outside crash_states store opens old new history from kept
+      pub ran_format : (new : D) (at : memory.Store) (segments : ℕ) → IsTrue (outside new).tells → IsSettled outside crash_states new → HasBegun outside crash_states store opens old new history from at
           → RunRan outside crash_states store c opens old new history from (Done (Formatted segments))
-      ran_format old new kept segments told settled b =
+      ran_format new at segments told settled b =
           let written : List WrittenPiece = (outside new).trace.written in
           let none : b.begun ++ [] ≡ b.begun = append-nil b.begun in
           let log : HasAllOf written store history (b.begun ++ []) [] (outside new).anchor = (b.opened, inl (subst (λ (h : History). IsLog written store (outside new).anchor (history ++ h) b.opened) (sym none) b.log)) in
@@ -186,4 +200,6 @@ module _ {D : Type 0} (outside : D → Outside) (crash_states : D → CrashState
             );
             explained = tt;
             log = log;
+            partitions = λ has a part rest to.
+                kept new ((b.begun ++ []) ++ []) part rest (subst AreOfRun (sym (append-nil (b.begun ++ []) ∙ none)) (by_run from b.begun b.opened b.begins)) has a to;
           }

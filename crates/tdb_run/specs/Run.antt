@@ -2,7 +2,7 @@
 use Rattle.std.specs.Prelude.{◌≡◌, ◌≢◌, ◌⊎◌, ◌↔◌, ℕ, List, [], ◌++◌, map, None, IsTrue, true, false}
 use Rattle.tdb_base.specs.Trace.{Extends}
 use Rattle.tdb_model.specs.Apply.{History}
-use Rattle.tdb_platform.specs.Outside.{Outside}
+use Rattle.tdb_platform.specs.Outside.{Anchor, Outside}
 use Rattle.tdb_platform.specs.CrashStates.{CrashStates}
 use Rattle.tdb_stream.specs.SinkContent.{SinkContent}
 use Rattle.tdb_stream.specs.SourceContent.{SourceContent}
@@ -11,7 +11,7 @@ use Rattle.tdb_overlay.specs.Found.{Store}
 use Rattle.tdb_overlay.specs.Log.{IsLog}
 use Rattle.tdb_overlay.specs.Reading.{OnlyReads}
 use Rattle.tdb_overlay.specs.StoreState.{StoreState}
-use Rattle.tdb_run.specs.Begin.{IsEarlyStop, IsExplainedStop, IsNewStore, IsReopened, LeavesLog, LeavesLogOrNothing, Opens, OverStart}
+use Rattle.tdb_run.specs.Begin.{HasUserPartitions, IsEarlyStop, IsExplainedStop, IsNewStore, IsReopened, LeavesLog, LeavesLogOrNothing, Opens, OverStart}
 use Rattle.tdb_run.specs.Command.{IsFormat, IsNoCommand, IsOfNewStore, IsRun, IsStart}
 use Rattle.tdb_run.specs.LastLine.{EndsWith}
 use Rattle.tdb_run.specs.LineResult.{HasAllOf}
@@ -80,7 +80,8 @@ pub record HasNoScript {came gone : SourceContent} (c : Conversation came gone) 
 
 -- The commits before the script and those of its answers stand in the log of the anchor, and of each anchor that a stop may
 -- leave; behind them stands at most one more. Since the anchor was told, a stop leaves no log but with a first part of these.
--- Only a run that didn't come to its script may not have been told it.
+-- Only a run that didn't come to its script may not have been told it. Where partitions 1 and 2 were as a run makes them, or
+-- neither was there, it is so in each log with a first part of these.
 pub record RunRan {D : Type 0} (outside : D → Outside) (crash_states : D → CrashStates) (store : Store) {came gone : SourceContent} (c : Conversation came gone) (opens : StoreState → History → StoreState → Type 0) (old new : D) (history : History) (from : StoreState) (status : Status) : Type 0 where
   pub begun : History
   pub answers : List Answer
@@ -92,6 +93,8 @@ pub record RunRan {D : Type 0} (outside : D → Outside) (crash_states : D → C
       ⊎ (HasNoScript c opens from status begun answers maybe × LeavesLogOrNothing outside crash_states store old new history maybe)
   pub explained : IsExplainedStop store (outside old) (outside new) from status
   pub log : HasAllOf (outside new).trace.written store history (begun ++ added_by answers) maybe (outside new).anchor
+  pub partitions : HasUserPartitions from.chunks
+      → (a : Anchor) (part rest : History) (to : StoreState) → (begun ++ added_by answers) ++ maybe ≡ part ++ rest → IsLog (outside new).trace.written store a (history ++ part) to → HasUserPartitions to.chunks
 
 -- the same of each log that the anchor had at the start
 abbrev pub RunOver : {D : Type 0} → (D → Outside) → (D → CrashStates) → Store → {came gone : SourceContent} → Conversation came gone → Opens → D → D → Status → Type 0

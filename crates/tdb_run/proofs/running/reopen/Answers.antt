@@ -5,6 +5,7 @@ use Rattle.tdb_overlay.specs.SealedOnly.{OnlySealed}
 use Rattle.tdb_run.specs.Begin.{IsReopened}
 use Rattle.tdb_run.proofs.Early.{keeps_platform, no_conversation, served_none, stop_at_once, stop_without_script}
 use Rattle.tdb_run.proofs.Over.{caused_since, keeps_since, ran_over, whole_over}
+use Rattle.tdb_run.proofs.Partitions.{reopened_by_run}
 use Rattle.tdb_run.proofs.RunRan.{ran_early}
 use Rattle.tdb_run.proofs.Whole.{only_sealed_along}
 use Rattle.tdb_run.proofs.Refusing.{script_not_refused}
@@ -16,7 +17,7 @@ returns-in-Ok-clause-served g c =
       served.0,
       λ store secret.
           ran_over g.P.Platform.outside g.P.Platform.crash_states g.met.P.Platform.counts g.met.P.Platform.numbered store store (store_of c.in-Ok.store) (IsReopened store) c.args.platform.now c.open_store.new.platform c.serve.new.platform c.in-Ok.store c.serve.result
-          (c.open_store.ensures.goes_on store secret) c.serve.ensures.goes_on (c.in-Ok.ensures.begun store secret) served.0.conversation c.serve.ensures.script served.1,
+          (c.open_store.ensures.goes_on store secret) c.serve.ensures.goes_on (c.in-Ok.ensures.begun store secret) (reopened_by_run store) served.0.conversation c.serve.ensures.script served.1,
     )
 
 pub returns-in-Ok-clause-intact : goal.returns-in-Ok-clause-intact
@@ -55,7 +56,7 @@ returns-in-Err-clause-served g c =
       served_none came (g.K.Sink.content c.args.sink.now) status (stop_at_once (outside old) (outside new) status (stop_without_script (outside old) (outside new) status early)),
       λ store secret told sound history from is.
           let stopped = c.in-Err.ensures.not_begun store secret told sound history from is in
-          ran_early outside g.P.Platform.crash_states g.met.P.Platform.counts store (no_conversation came) (IsReopened store) history from refl refl refl refl old new status early stopped.0 stopped.1,
+          ran_early outside g.P.Platform.crash_states g.met.P.Platform.counts store (no_conversation came) (IsReopened store) (reopened_by_run store) history from old is refl refl refl refl new status early stopped.0 stopped.1,
     )
 
 pub returns-in-Err-clause-sealed : goal.returns-in-Err-clause-sealed

@@ -6,6 +6,7 @@ use Rattle.tdb_overlay.specs.SealedOnly.{OnlySealed}
 use Rattle.tdb_run.specs.Begin.{IsNewStore}
 use Rattle.tdb_run.proofs.Early.{no_conversation, served_none, stop_at_once, stop_without_script}
 use Rattle.tdb_run.proofs.Over.{ran_over, whole_over}
+use Rattle.tdb_run.proofs.Partitions.{new_by_run}
 use Rattle.tdb_run.proofs.RunRan.{ran_early}
 use Rattle.tdb_run.proofs.Whole.{new_store_intact, only_sealed_along}
 use Rattle.tdb_run.proofs.Refusing.{script_not_refused}
@@ -17,7 +18,7 @@ returns-in-Ok-clause-served g c =
     let served = c.serve.ensures.served in (
       served.0,
       ran_over g.P.Platform.outside g.P.Platform.crash_states g.met.P.Platform.counts g.met.P.Platform.numbered store store (store_of c.in-Ok.store) (IsNewStore store) c.args.platform.now c.new_store.new.platform c.serve.new.platform c.in-Ok.store c.serve.result
-          c.new_store.ensures.goes_on c.serve.ensures.goes_on (λ told sound history from is. (c.in-Ok.ensures.store, c.in-Ok.ensures.begun told sound history from is)) served.0.conversation c.serve.ensures.script served.1,
+          c.new_store.ensures.goes_on c.serve.ensures.goes_on (λ told sound history from is. (c.in-Ok.ensures.store, c.in-Ok.ensures.begun told sound history from is)) (new_by_run store) served.0.conversation c.serve.ensures.script served.1,
     )
 
 pub returns-in-Ok-clause-intact : goal.returns-in-Ok-clause-intact
@@ -47,7 +48,7 @@ returns-in-Err-clause-served g c =
       served_none came (g.K.Sink.content c.args.sink.now) status (stop_at_once (outside old) (outside new) status (stop_without_script (outside old) (outside new) status early)),
       λ told sound history from is.
           let stopped = c.in-Err.ensures.not_begun told sound history from is in
-          ran_early outside g.P.Platform.crash_states g.met.P.Platform.counts store (no_conversation came) (IsNewStore store) history from refl refl refl refl old new status early stopped.0 stopped.1,
+          ran_early outside g.P.Platform.crash_states g.met.P.Platform.counts store (no_conversation came) (IsNewStore store) (new_by_run store) history from old is refl refl refl refl new status early stopped.0 stopped.1,
     )
 
 pub returns-in-Err-clause-intact : goal.returns-in-Err-clause-intact
