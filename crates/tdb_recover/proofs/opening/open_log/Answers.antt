@@ -17,6 +17,33 @@ use Rattle.tdb_recover.proofs.Composing.{explained_then, given_before, given_the
 use Rattle.tdb_recover.proofs.Showing.{explained_as}
 use Rattle.tdb_recover.proofs.opening.open_log.Goals as goal
 
+pub returns-clause-recovered : goal.returns-clause-recovered
+returns-clause-recovered g c t whole given at =
+    let outside = g.P.Platform.outside in
+    let states = g.P.Platform.crash_states in
+    let numbered = g.met.P.Platform.numbered in
+    let old = c.args.platform.now in
+    let mid = c.read_chain.new.platform in
+    let then = c.read_segments.new.platform in
+    let new = c.replay.new.platform in
+    let first = c.read_chain.ensures.reads in
+    let second = c.read_segments.ensures.reads in
+    let both = reads_then outside states g.met.P.Platform.counts old mid then first second in
+    let keys = c.args.keys.now in
+    let chain = c.in_ok-chain.chain in
+    let later = reverse chain.commits.items in
+    let r : Recovered = record { head = record { count = c.args.count; mark = c.args.mark; base = chain.base.count }; segments = c.in_ok-segments.segments; overlay = c.new.result } in
+    let told = tells_then outside states old then both t in
+    let ends = c.in_ok-chain.ensures.ends t whole (given_at_chain outside states numbered old mid then new first second both c.replay.ensures.reads t keys whole given) at in
+    let rest = rest_begins outside states numbered old mid then new first second both c.replay.ensures.reads t keys whole given chain.base later c.in_ok-chain.ensures.format c.in_ok-chain.ensures.base ends r
+    (c.in_ok-segments.ensures.segments (tells_then outside states old mid first t)) c.new.ensures in
+    let kept = c.in_ok-replay.ensures.replayed told whole (given_then outside states old then both t (outside new).trace keys whole given) rest
+    (written_then outside states old then both t (λ ws. EndsWith ws keys whole.chain chain.base later) ends) in
+    let head : c.replay.new.log.head ≡ r.head = c.in_ok-replay.ensures.head in
+    is_recovered (outside old).trace.written (outside new).trace keys whole given chain.base later c.in_ok-chain.ensures.format c.in_ok-chain.ensures.base ends c.args.count c.args.mark.0 c.replay.new.log c.requires at
+    (ap (λ (h : Head). h.count) head) (ap (λ (h : Head). h.base) head)
+    (written_back outside states old then both t (λ ws. IsReplayOf (needed ws whole.store whole.anchor) whole.store c.replay.new.log whole.last) kept)
+
 pub returns-then-is_some-clause-explained : goal.returns-then-is_some-clause-explained
 returns-then-is_some-clause-explained g c t whole given at =
     let old = g.P.Platform.outside c.args.platform.now in
@@ -103,30 +130,3 @@ returns-clause-reads g c =
     let then = c.read_segments.new.platform in
     let both = reads_then outside states counts old c.read_chain.new.platform then c.read_chain.ensures.reads c.read_segments.ensures.reads in
     reads_then outside states counts old then c.replay.new.platform both c.replay.ensures.reads
-
-pub returns-clause-recovered : goal.returns-clause-recovered
-returns-clause-recovered g c t whole given at =
-    let outside = g.P.Platform.outside in
-    let states = g.P.Platform.crash_states in
-    let numbered = g.met.P.Platform.numbered in
-    let old = c.args.platform.now in
-    let mid = c.read_chain.new.platform in
-    let then = c.read_segments.new.platform in
-    let new = c.replay.new.platform in
-    let first = c.read_chain.ensures.reads in
-    let second = c.read_segments.ensures.reads in
-    let both = reads_then outside states g.met.P.Platform.counts old mid then first second in
-    let keys = c.args.keys.now in
-    let chain = c.in_ok-chain.chain in
-    let later = reverse chain.commits.items in
-    let r : Recovered = record { head = record { count = c.args.count; mark = c.args.mark; base = chain.base.count }; segments = c.in_ok-segments.segments; overlay = c.new.result } in
-    let told = tells_then outside states old then both t in
-    let ends = c.in_ok-chain.ensures.ends t whole (given_at_chain outside states numbered old mid then new first second both c.replay.ensures.reads t keys whole given) at in
-    let rest = rest_begins outside states numbered old mid then new first second both c.replay.ensures.reads t keys whole given chain.base later c.in_ok-chain.ensures.format c.in_ok-chain.ensures.base ends r
-    (c.in_ok-segments.ensures.segments (tells_then outside states old mid first t)) c.new.ensures in
-    let kept = c.in_ok-replay.ensures.replayed told whole (given_then outside states old then both t (outside new).trace keys whole given) rest
-    (written_then outside states old then both t (λ ws. EndsWith ws keys whole.chain chain.base later) ends) in
-    let head : c.replay.new.log.head ≡ r.head = c.in_ok-replay.ensures.head in
-    is_recovered (outside old).trace.written (outside new).trace keys whole given chain.base later c.in_ok-chain.ensures.format c.in_ok-chain.ensures.base ends c.args.count c.args.mark.0 c.replay.new.log c.requires at
-    (ap (λ (h : Head). h.count) head) (ap (λ (h : Head). h.base) head)
-    (written_back outside states old then both t (λ ws. IsReplayOf (needed ws whole.store whole.anchor) whole.store c.replay.new.log whole.last) kept)

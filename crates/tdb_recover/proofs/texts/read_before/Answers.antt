@@ -12,6 +12,17 @@ use Rattle.tdb_recover.proofs.Showing.{explained_as}
 use Rattle.tdb_recover.proofs.texts.read_before.Goals as goal
 use Rattle.tdb_recover.proofs.texts.read_before.Goals.{else-earlier-count-via-then-earlier-count+then-earlier-text+then-eq+else-earlier-text-2, else-earlier-count-via-then-earlier-count+then-earlier-text+else-eq, else-earlier-count-via-then-earlier-count+else-earlier-text, else-earlier-count-via-else-earlier-count}
 
+pub returns-then-earlier-text-2-clause-ends : goal.returns-then-earlier-text-2-clause-ends
+returns-then-earlier-text-2-clause-ends g c t log given later ends =
+    let old = g.P.Platform.outside c.args.platform.now in
+    let new = g.P.Platform.outside c.read_text.new.platform in
+    let text = c.args.text.now in
+    let some : 1 < text.count = omega (arith, c.requires.format.base, c.requires.commit) in
+    let last = before_text old.trace.written new.trace c.args.keys.now log given text later some ends in
+    let is : c.in_ok-earlier.earlier ≡ last.commit = c.in_ok-earlier.ensures.text t last.commit (is_text_of old.trace.written new.trace c.args.keys.now log given _ _ _ last) in
+    subst (λ (x : Commit). EndsWith old.trace.written c.args.keys.now log.chain x (text ∷ later)) (sym is)
+    (before_ends old.trace.written new.trace c.args.keys.now log given text later c.requires.format c.requires.commit some ends last)
+
 pub returns-in_err-earlier-clause-explained : goal.returns-in_err-earlier-clause-explained
 returns-in_err-earlier-clause-explained g c =
     let old = g.P.Platform.outside c.args.platform.now in
@@ -25,17 +36,6 @@ returns-in_err-earlier-clause-explained g c =
     (explained_as old new (λ p. p ≡ record { place = record { 0 = slot_place (text.count - 1) }; length = 256; digest = text.prev }) (IsOpeningPiece old.trace.written log.store log.anchor) c.in_err-earlier.field-0.0
     (λ piece same. before_opening old.trace.written new.trace c.args.keys.now log given text later piece c.requires.format c.requires.commit some ends last same)
     (c.in_err-earlier.ensures.explained t last.commit (is_text_of old.trace.written new.trace c.args.keys.now log given _ _ _ last))))
-
-pub returns-then-earlier-text-2-clause-ends : goal.returns-then-earlier-text-2-clause-ends
-returns-then-earlier-text-2-clause-ends g c t log given later ends =
-    let old = g.P.Platform.outside c.args.platform.now in
-    let new = g.P.Platform.outside c.read_text.new.platform in
-    let text = c.args.text.now in
-    let some : 1 < text.count = omega (arith, c.requires.format.base, c.requires.commit) in
-    let last = before_text old.trace.written new.trace c.args.keys.now log given text later some ends in
-    let is : c.in_ok-earlier.earlier ≡ last.commit = c.in_ok-earlier.ensures.text t last.commit (is_text_of old.trace.written new.trace c.args.keys.now log given _ _ _ last) in
-    subst (λ (x : Commit). EndsWith old.trace.written c.args.keys.now log.chain x (text ∷ later)) (sym is)
-    (before_ends old.trace.written new.trace c.args.keys.now log given text later c.requires.format c.requires.commit some ends last)
 
 pub returns-else-earlier-count-clause-explained : goal.returns-else-earlier-count-clause-explained
 returns-else-earlier-count-clause-explained g c t log given later ends =
