@@ -7,7 +7,7 @@ ghost use Rattle.tdb_append.specs.Put.{Puts, WritesSome, next_anchor, slot_place
 
 use crate::{Head, Laid};
 use sha2::{Digest as _, Sha256};
-use tdb_base::{Digest, Failed};
+use tdb_base::{Digest, Failed, Place};
 use tdb_platform::Platform;
 
 /// How many bytes a commit text has.
@@ -16,12 +16,13 @@ const TEXT_LENGTH: u64 = 256;
 /// How many slots for commit texts stand at the start of the device.
 const SLOTS: u64 = 1_024;
 
-/// The place of the slot in which the commit text with a count stands, in bytes.
-pub(crate) fn slot_of(count: u64) -> u64
+/// The place of the slot in which the commit text with a count stands: one of the 1,024 slots of
+/// 256 bytes at the start of the device, which are used in turn.
+pub fn slot_of(count: u64) -> Place
     requires { 0 < count }
-    ensures { result ≡ slot_place count }
+    ensures place { result.0 ≡ slot_place count }
 {
-    (count - 1) % SLOTS * TEXT_LENGTH
+    Place((count - 1) % SLOTS * TEXT_LENGTH)
 }
 
 /// Writes the pieces in order.
@@ -79,7 +80,7 @@ pub fn put<P: Platform>(
     let count = head.count + 1;
     let mark = Digest(Sha256::digest(text));
     write_all(platform, pieces)?;
-    platform.write(slot_of(count), text)?;
+    platform.write(slot_of(count).0, text)?;
     platform.sync()?;
     platform.advance(count, &mark.0)?;
     Ok(Head {

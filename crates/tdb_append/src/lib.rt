@@ -13,6 +13,6 @@ mod laid;
 #[cfg(test)]
 mod tests;
 
-pub use append::put;
+pub use append::{put, slot_of};
 pub use head::{COMMITS_PER_CHECKPOINT, Head, HeadError, may_commit};
 pub use laid::Laid;

@@ -1,6 +1,5 @@
 //! Slots of commit texts, and the refusals of a head.
-use crate::append::slot_of;
-use crate::{Head, HeadError, may_commit};
+use crate::{Head, HeadError, may_commit, slot_of};
 use std::test::Fail;
 use tdb_base::Digest;
 
@@ -8,7 +7,7 @@ use tdb_base::Digest;
 fn a_slot_comes_again_after_1024_counts(rt: HostRuntime) {
     let slots = [(1, 0), (2, 256), (1_024, 261_888), (1_025, 0), (1_026, 256)];
     for (count, place) in slots {
-        assert_eq!(rt; slot_of(count), place, "the slot of {count}");
+        assert_eq!(rt; slot_of(count).0, place, "the slot of {count}");
     }
 }
 

@@ -47,6 +47,12 @@ pub record IsRequired (written : List WrittenPiece) (store : Store) (anchor : An
   pub since_base : base_of chain ≤ text.count
   pub rests : RestsOn (in_trace written) store.secret text piece
 
+-- A piece that opening the log of an anchor reads: such a text itself, or the table or the list that it names, and no
+-- record of a chunk.
+pub record IsOpeningPiece (written : List WrittenPiece) (store : Store) (anchor : Anchor) (piece : Piece) : Type 0 where
+  pub required : IsRequired written store anchor piece
+  pub of_text : (piece ≡ text_piece store.secret required.text) ⊎ (piece ≡ required.text.first)
+
 -- a read that was asked for the whole piece at its place
 abbrev pub IsReadOf : Piece → ReadPiece → Type 0
 IsReadOf piece r = (r.place ≡ piece.place.0) × (r.asked ≡ piece.length)

@@ -10,14 +10,12 @@ ghost use Rattle.tdb_overlay.specs.Reading.{OnlyReads};
 
 use sha2::{Digest as _, Sha256};
 use std::alloc::Global;
-use tdb_base::{Damage, Digest, Piece, Place};
+use tdb_append::slot_of;
+use tdb_base::{Damage, Digest, Piece};
 use tdb_platform::Platform;
 
 /// How many bytes a commit text has.
 const TEXT_LENGTH: usize = 256;
-
-/// How many slots for commit texts stand at the start of the device.
-const SLOTS: u64 = 1_024;
 
 /// Why a piece wasn't read.
 #[derive(Clone, Copy, Debug, PartialEq, Eq)]
@@ -28,14 +26,6 @@ pub enum FetchError {
     Fault,
     /// Memory ran out, before anything was read.
     Memory,
-}
-
-// The place of the slot in which the commit text with a count stands, in bytes.
-fn slot_of(count: u64) -> u64
-    requires { 0 < count }
-    ensures { result ≡ slot_place count }
-{
-    (count - 1) % SLOTS * 256
 }
 
 /// Reads a piece, and gives its bytes where they have its digest. They may be fewer than the piece's
@@ -94,7 +84,7 @@ pub fn fetch_text<P: Platform>(
 {
     let place = slot_of(count);
     let mut text = [0; TEXT_LENGTH];
-    let Ok(length) = platform.read(place, &mut text) else {
+    let Ok(length) = platform.read(place.0, &mut text) else {
         return Err(FetchError::Fault);
     };
     let found = Digest(Sha256::digest(&text[..length]));
@@ -102,7 +92,7 @@ pub fn fetch_text<P: Platform>(
         Ok(text)
     } else {
         Err(FetchError::Tampered(Damage {
-            place: Place(place),
+            place,
             expected: *mark,
             found,
         }))

@@ -23,7 +23,7 @@ use Rattle.tdb_overlay.specs.Keys.{system_key}
 use Rattle.tdb_overlay.specs.Log.{IsCheckpointOn, IsCommitOn, IsLogOf, IsStep, end_of}
 use Rattle.tdb_overlay.specs.Needed.{needed}
 use Rattle.tdb_overlay.specs.Recovered.{IsRecovered}
-use Rattle.tdb_overlay.specs.Required.{IsRequired}
+use Rattle.tdb_overlay.specs.Required.{IsOpeningPiece}
 use Rattle.tdb_overlay.specs.StoreState.{StoreState, first_state}
 use Rattle.tdb_overlay.specs.declared.recovered.Recovered.{Recovered}
 use Rattle.tdb_overlay.proofs.Chains.{chain_in_format}
@@ -31,7 +31,7 @@ use Rattle.tdb_overlay.proofs.Coverings.{covering_none}
 use Rattle.tdb_recover.specs.Chain.{EndsWith, IsGiven, WholeLog}
 use Rattle.tdb_recover.specs.Records.{IsTableIn}
 use Rattle.tdb_recover.specs.Replay.{IsReplayOf, IsRest}
-use Rattle.tdb_recover.proofs.Ends.{is_required, newest, newest_counts}
+use Rattle.tdb_recover.proofs.Ends.{is_opening, newest, newest_counts}
 use Rattle.tdb_recover.proofs.Steps.{counts_of, split}
 
 -- the step of the checkpoint, and the log behind it
@@ -81,9 +81,9 @@ module _ (written : List WrittenPiece) (trace : Trace) (secret : List ℕ) (log 
         refl,
       )
 
-  -- and it is needed
-  pub table_required : (piece : Piece) → piece ≡ base.first → IsRequired written log.store log.anchor piece
-  table_required piece same = is_required written trace secret log given base ends.front later piece ends.parts (omega (arith, ends.base, own)) (inr (inl same))
+  -- and opening reads it
+  pub table_opening : (piece : Piece) → piece ≡ base.first → IsOpeningPiece written log.store log.anchor piece
+  table_opening piece same = is_opening written trace secret log given base ends.front later piece ends.parts (omega (arith, ends.base, own)) (inr same)
 
   -- what is kept before the first list is read
   pub starts : (step : BaseStep written log base later) (r : Recovered) → r.segments ≡ table_space step.checkpoint.table.table (end_of base.first) → r.overlay ≡ no_covers → IsRest written log later r

@@ -1,5 +1,5 @@
 -- The end of a chain of texts.
-use Rattle.std.proofs.Common.{◌≡◌, ◌⊎◌, inl, inr, ℕ, suc, ◌+◌, ◌-◌, ◌<◌, ◌≤◌, ◌==◌, ◌&&◌, Bool, true, false, cond, List, [], ◌∷◌, ◌++◌, replicate, Option, Some, refl, sym, ◌∙◌, ap, subst, arith, append_assoc, IsNone}
+use Rattle.std.proofs.Common.{◌≡◌, ◌⊎◌, inl, inr, ⊎_elim, ℕ, suc, ◌+◌, ◌-◌, ◌<◌, ◌≤◌, ◌==◌, ◌&&◌, Bool, true, false, cond, List, [], ◌∷◌, ◌++◌, replicate, Option, Some, refl, sym, ◌∙◌, ap, subst, arith, append_assoc, IsNone}
 use Rattle.std.specs.Str.{bytes_eq}
 use Rattle.std.proofs.lemmas.Bool.{eqb-true}
 use Rattle.sha2.specs.Sha256.{sha256}
@@ -16,7 +16,7 @@ use Rattle.tdb_mark.proofs.DigestLemmas.{text_of_digest_is}
 use Rattle.tdb_mark.proofs.TextLemmas.{commit_of_is}
 use Rattle.tdb_platform.specs.Outside.{Anchor}
 use Rattle.tdb_overlay.specs.Found.{in_trace}
-use Rattle.tdb_overlay.specs.Required.{IsRequired, RestsOn, base_of, text_piece}
+use Rattle.tdb_overlay.specs.Required.{IsOpeningPiece, base_of, text_piece}
 use Rattle.tdb_overlay.specs.Log.{IsLogOf}
 use Rattle.tdb_overlay.specs.StoreState.{StoreState, first_state}
 use Rattle.tdb_overlay.proofs.Chains.{chain_in_format, chain_last, step_counts}
@@ -55,32 +55,35 @@ base_not_later c format = by_kind format.kind
     by_kind (inr checkpoint) = omega (arith, checkpoint.1)
 
 module _ (written : List WrittenPiece) (trace : Trace) (secret : List ℕ) (log : WholeLog) (given : IsGiven written trace secret log) where
-  -- what a text of the chain rests on is needed
-  pub is_required : (c : Commit) (front later : List Commit) (piece : Piece) → log.chain ≡ front ++ c ∷ later → base_of log.chain ≤ c.count → RestsOn (in_trace written) log.store.secret c piece
-      → IsRequired written log.store log.anchor piece
-  is_required c front later piece parts since rests = record {
-    chain = log.chain;
-    ends = subst (λ (s : List ℕ). commit_chain written (commit_of (commit_key_of s)) log.anchor.0 log.anchor.1 ≡ Some log.chain) (sym given.keys) given.ends;
-    text = c;
-    earlier = front;
-    later = later;
-    in_chain = parts;
-    since_base = since;
-    rests = rests;
+  -- opening reads a text of the chain since the last checkpoint, and the piece that it names
+  pub is_opening : (c : Commit) (front later : List Commit) (piece : Piece) → log.chain ≡ front ++ c ∷ later → base_of log.chain ≤ c.count → (piece ≡ text_piece log.store.secret c) ⊎ (piece ≡ c.first)
+      → IsOpeningPiece written log.store log.anchor piece
+  is_opening c front later piece parts since of_text = record {
+    required = record {
+      chain = log.chain;
+      ends = subst (λ (s : List ℕ). commit_chain written (commit_of (commit_key_of s)) log.anchor.0 log.anchor.1 ≡ Some log.chain) (sym given.keys) given.ends;
+      text = c;
+      earlier = front;
+      later = later;
+      in_chain = parts;
+      since_base = since;
+      rests = ⊎_elim (λ text. inl text) (λ first. inr (inl first)) of_text;
+    };
+    of_text = of_text;
   }
 
-  -- so is the text itself
-  pub text_required : (c : Commit) (front later : List Commit) (text : List ℕ) (mark : Digest) (count : ℕ) (piece : Piece) → log.chain ≡ front ++ c ∷ later → base_of log.chain ≤ c.count
+  -- such a text, by the mark that the chain says
+  pub text_opening : (c : Commit) (front later : List Commit) (text : List ℕ) (mark : Digest) (count : ℕ) (piece : Piece) → log.chain ≡ front ++ c ∷ later → base_of log.chain ≤ c.count
       → text_of_digest written mark.0 ≡ Some text → commit_of (commit_key_of secret) text ≡ Some c → c.count ≡ count
-      → piece ≡ record { place = record { 0 = slot_place count }; length = 256; digest = mark } → IsRequired written log.store log.anchor piece
-  text_required c front later text mark count piece parts since found reads at is =
+      → piece ≡ record { place = record { 0 = slot_place count }; length = 256; digest = mark } → IsOpeningPiece written log.store log.anchor piece
+  text_opening c front later text mark count piece parts since found reads at is =
       let spelled : text ≡ commit_text (commit_key_of secret) c = (commit_of_is (commit_key_of secret) text c reads).spelled in
       let marked : mark.0 ≡ sha256 (commit_text (commit_key_of secret) c) = sym (text_of_digest_is written mark.0 text found).1 ∙ ap sha256 spelled in
       let here : piece ≡ text_piece secret c =
       is
       ∙ ap (λ (n : ℕ). let p : Piece = record { place = record { 0 = slot_place n }; length = 256; digest = mark } in p) (sym at)
       ∙ ap (λ (l : List ℕ). let p : Piece = record { place = record { 0 = slot_place c.count }; length = 256; digest = record { 0 = l } } in p) marked in
-      is_required c front later piece parts since (inl (here ∙ ap (λ (s : List ℕ). text_piece s c) (sym given.keys)))
+      is_opening c front later piece parts since (inl (here ∙ ap (λ (s : List ℕ). text_piece s c) (sym given.keys)))
 
   -- the text of which the chain says the mark
   pub is_text_of : (n : ℕ) (mark : List ℕ) (chain : List Commit) (last : LastText written (commit_of (commit_key_of secret)) n mark chain) → IsTextOf written trace secret mark last.commit
@@ -102,13 +105,13 @@ module _ (written : List WrittenPiece) (trace : Trace) (secret : List ℕ) (log 
     base = ap base_of last.parts ∙ base_of-last last.front last.commit;
   }
 
-  pub newest_required : (count : ℕ) (mark : Digest) (piece : Piece) → 0 < count → LastText written (commit_of (commit_key_of secret)) (count - 1) mark.0 log.chain
-      → piece ≡ record { place = record { 0 = slot_place count }; length = 256; digest = mark } → IsRequired written log.store log.anchor piece
-  newest_required count mark piece some last is =
+  pub newest_opening : (count : ℕ) (mark : Digest) (piece : Piece) → 0 < count → LastText written (commit_of (commit_key_of secret)) (count - 1) mark.0 log.chain
+      → piece ≡ record { place = record { 0 = slot_place count }; length = 256; digest = mark } → IsOpeningPiece written log.store log.anchor piece
+  newest_opening count mark piece some last is =
       let format = (commit_of_is (commit_key_of secret) last.text last.commit last.reads).in_format in
       let base : base_of log.chain ≡ last.commit.base = ap base_of last.parts ∙ base_of-last last.front last.commit in
       let not_later = base_not_later last.commit format in
-      text_required last.commit last.front [] last.text mark count piece last.parts (omega (arith, base, not_later)) last.found last.reads (omega (arith, last.count, some)) is
+      text_opening last.commit last.front [] last.text mark count piece last.parts (omega (arith, base, not_later)) last.found last.reads (omega (arith, last.count, some)) is
 
   -- the last text has the anchor's count, and not too many since its base
   pub newest_counts : (count : ℕ) (mark : List ℕ) → 0 < count → (last : LastText written (commit_of (commit_key_of secret)) (count - 1) mark log.chain) → (last.commit.count ≡ count) × (count ≤ last.commit.base + 1000) × (log.last.count ≡ count)
@@ -159,10 +162,10 @@ module _ (written : List WrittenPiece) (trace : Trace) (secret : List ℕ) (log 
         base = ends.base ∙ sym fits.1;
       }
 
-  pub before_required : (text : Commit) (later : List Commit) (piece : Piece) → IsInFormat text → text.base < text.count → 1 < text.count → (ends : EndsWith written secret log.chain text later)
+  pub before_opening : (text : Commit) (later : List Commit) (piece : Piece) → IsInFormat text → text.base < text.count → 1 < text.count → (ends : EndsWith written secret log.chain text later)
       → (last : LastText written (commit_of (commit_key_of secret)) (text.count - 2) text.prev.0 ends.front)
-      → piece ≡ record { place = record { 0 = slot_place (text.count - 1) }; length = 256; digest = text.prev } → IsRequired written log.store log.anchor piece
-  before_required text later piece format is_commit some ends last is =
+      → piece ≡ record { place = record { 0 = slot_place (text.count - 1) }; length = 256; digest = text.prev } → IsOpeningPiece written log.store log.anchor piece
+  before_opening text later piece format is_commit some ends last is =
       let next = before_ends text later format is_commit some ends last in
       let not_later = base_not_later last.commit (commit_of_is (commit_key_of secret) last.text last.commit last.reads).in_format in
-      text_required last.commit next.front (text ∷ later) last.text text.prev (text.count - 1) piece next.parts (omega (arith, next.base, not_later)) last.found last.reads (omega (arith, last.count, some)) is
+      text_opening last.commit next.front (text ∷ later) last.text text.prev (text.count - 1) piece next.parts (omega (arith, next.base, not_later)) last.found last.reads (omega (arith, last.count, some)) is

@@ -12,13 +12,13 @@ use Rattle.tdb_overlay.specs.Changes.{HasChanges, named_records}
 use Rattle.tdb_overlay.specs.Found.{in_trace}
 use Rattle.tdb_overlay.specs.Log.{IsCheckpointOn, IsCommitOn, IsLogOf, IsStep}
 use Rattle.tdb_overlay.specs.Needed.{needed}
-use Rattle.tdb_overlay.specs.Required.{IsRequired, base_of}
+use Rattle.tdb_overlay.specs.Required.{IsOpeningPiece, IsRequired, base_of}
 use Rattle.tdb_overlay.specs.StoreState.{StoreState}
 use Rattle.tdb_overlay.specs.declared.recovered.Recovered.{Recovered}
 use Rattle.tdb_overlay.proofs.Needing.{records_needed}
 use Rattle.tdb_recover.specs.Chain.{EndsWith, IsBehind, IsGiven, WholeLog}
 use Rattle.tdb_recover.specs.Replay.{IsCommitIn, IsReplayOf, IsRest}
-use Rattle.tdb_recover.proofs.Ends.{is_required}
+use Rattle.tdb_recover.proofs.Ends.{is_opening}
 use Rattle.tdb_recover.proofs.Steps.{no_checkpoint}
 
 -- the next text, as the commit that it is
@@ -74,8 +74,8 @@ module _ (written : List WrittenPiece) (trace : Trace) (secret : List ℕ) (log 
   pub rest_ends : (r : Recovered) → IsRest written log [] r → IsReplayOf (needed written log.store log.anchor) log.store r log.last
   rest_ends r rest = subst (IsReplayOf (needed written log.store log.anchor) log.store r) (sym rest.tells.1) rest.kept
 
-  -- the list of a commit behind the last checkpoint is needed
-  pub list_required : (base text : Commit) (done later all : List Commit) (piece : Piece) → EndsWith written secret log.chain base all → all ≡ done ++ text ∷ later → IsBehind base text → piece ≡ text.first → IsRequired written log.store log.anchor piece
-  list_required base text done later all piece ends parts behind same =
+  -- opening reads the list of a commit behind the last checkpoint
+  pub list_opening : (base text : Commit) (done later all : List Commit) (piece : Piece) → EndsWith written secret log.chain base all → all ≡ done ++ text ∷ later → IsBehind base text → piece ≡ text.first → IsOpeningPiece written log.store log.anchor piece
+  list_opening base text done later all piece ends parts behind same =
       let at = stands base text done later all ends parts behind in
-      is_required written trace secret log given text at.0 later piece at.1 at.2 (inr (inl same))
+      is_opening written trace secret log given text at.0 later piece at.1 at.2 (inr same)

@@ -11,7 +11,7 @@ use Rattle.tdb_model.specs.Apply.{History}
 use Rattle.tdb_platform.specs.Outside.{Anchor, Outside}
 use Rattle.tdb_overlay.specs.Found.{Store, in_trace}
 use Rattle.tdb_overlay.specs.Log.{IsLogOf}
-use Rattle.tdb_overlay.specs.Required.{IsRequired, base_of}
+use Rattle.tdb_overlay.specs.Required.{IsOpeningPiece, base_of}
 use Rattle.tdb_overlay.specs.StoreState.{StoreState, first_state}
 use Rattle.tdb_recover.specs.Explained.{IsExplained}
 use Rattle.tdb_recover.specs.declared.error.OpenError.{OpenError}
@@ -35,9 +35,9 @@ pub record IsGiven (written : List WrittenPiece) (trace : Trace) (secret : List 
 abbrev pub EachLog : Outside → Outside → List ℕ → (WholeLog → Type 0) → Type 0
 EachLog old new secret P = IsTrue old.tells → (log : WholeLog) → IsGiven old.trace.written new.trace secret log → P log
 
--- the error is explained by what the log needs
+-- the error is explained by the pieces that opening the log reads
 abbrev pub IsExplainedIn : Outside → Outside → OpenError → WholeLog → Type 0
-IsExplainedIn old new error log = IsExplained old new (IsRequired old.trace.written log.store log.anchor) error
+IsExplainedIn old new error log = IsExplained old new (IsOpeningPiece old.trace.written log.store log.anchor) error
 
 -- the text has the mark, and says the commit
 pub record IsTextOf (written : List WrittenPiece) (trace : Trace) (secret mark : List ℕ) (c : Commit) : Type 0 where

@@ -3,7 +3,8 @@
 //!
 //! It stands on the formats of texts, tables and lists, and on the definitions of a log in
 //! tdb_overlay. It carries the promise that what is opened is the state that the anchor's log
-//! tells, whatever the device shows, and that damage is told only of a piece that the log needs.
+//! tells, whatever the device shows, and that damage is told only of a text, the table or a list that
+//! the log needs.
 #![tactic(auto)]
 
 mod error;

@@ -8,7 +8,7 @@ ghost use Rattle.tdb_overlay.specs.Growth.{IsSettled};
 ghost use Rattle.tdb_overlay.specs.Needed.{needed};
 ghost use Rattle.tdb_overlay.specs.Reading.{OnlyReads};
 ghost use Rattle.tdb_overlay.specs.Recovered.{HasCounts, IsRecovered};
-ghost use Rattle.tdb_overlay.specs.Required.{IsRequired};
+ghost use Rattle.tdb_overlay.specs.Required.{IsOpeningPiece};
 ghost use Rattle.tdb_overlay.specs.StoreState.{StoreState};
 ghost use Rattle.tdb_platform.specs.Outside.{Rose};
 ghost use Rattle.tdb_recover.specs.Chain.{EachLog, IsExplainedIn};
@@ -20,9 +20,9 @@ ghost use Rattle.tdb_recover.specs.declared.error.OpenError.TheVariants.{Unforma
 use crate::error::OpenError;
 use crate::records::read_segments;
 use crate::replay::replay;
-use crate::texts::{read_chain, slot_of};
+use crate::texts::read_chain;
 use std::alloc::Global;
-use tdb_append::Head;
+use tdb_append::{Head, slot_of};
 use tdb_base::Digest;
 use tdb_overlay::{Keys, Overlay, Recovered};
 use tdb_platform::Platform;
@@ -86,9 +86,9 @@ pub fn recover<P: Platform>(
     // what was recovered is the log's state, whatever the device showed, told by pieces that the log needs
     ensures recovered { IfOk result (λ log. (store : Store) (history : History) (last : StoreState) → Premises (P.outside platform.old) (P.outside platform.new) keys.now store history last
         → IsRecovered (needed (P.outside platform.old).trace.written store (P.outside platform.old).anchor) store log last) }
-    // damage is told only of a piece that the log needs, and that the last read of it showed otherwise
+    // damage is told only of a text since the last checkpoint, of the table or of a list, and the last read of it showed it
     ensures tampered { (damage : Damage) → result ≡ Err (Tampered damage) → (store : Store) (history : History) (last : StoreState) → Premises (P.outside platform.old) (P.outside platform.new) keys.now store history last
-        → IsDamageOf (P.outside platform.old) (P.outside platform.new) (IsRequired (P.outside platform.old).trace.written store (P.outside platform.old).anchor) damage }
+        → IsDamageOf (P.outside platform.old) (P.outside platform.new) (IsOpeningPiece (P.outside platform.old).trace.written store (P.outside platform.old).anchor) damage }
     // a piece that has its digest fits the others
     ensures form { (place : Place) → result ≡ Err (Form place) → (store : Store) (history : History) (last : StoreState) → Premises (P.outside platform.old) (P.outside platform.new) keys.now store history last → ⊥ }
     ensures fault { result ≡ Err Fault → Rose (P.outside platform.old).faults (P.outside platform.new).faults }

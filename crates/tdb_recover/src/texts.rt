@@ -11,17 +11,11 @@ ghost use Rattle.tdb_recover.specs.Explained.{IsCaused, IsExplained};
 
 use crate::error::OpenError;
 use std::alloc::Global;
-use tdb_append::COMMITS_PER_CHECKPOINT;
-use tdb_base::{Digest, Place};
+use tdb_append::{COMMITS_PER_CHECKPOINT, slot_of};
+use tdb_base::Digest;
 use tdb_mark::{Commit, read_commit_with};
 use tdb_overlay::{Keys, fetch_text};
 use tdb_platform::Platform;
-
-/// How many bytes a commit text has.
-const TEXT_LENGTH: u64 = 256;
-
-/// How many slots for commit texts stand at the start of the device.
-const SLOTS: u64 = 1_024;
 
 /// The texts of a log since the last checkpoint.
 #[derive(Drop)]
@@ -30,14 +24,6 @@ pub(crate) struct Chain {
     pub base: Commit,
     /// The texts of the commits behind it, the last one first.
     pub commits: Vec<Commit>,
-}
-
-/// The place of the slot in which the text with a count stands.
-pub(crate) fn slot_of(count: u64) -> Place
-    requires { 0 < count }
-    ensures { result.0 ≡ slot_place count }
-{
-    Place((count - 1) % SLOTS * TEXT_LENGTH)
 }
 
 /// Reads the text that has a mark, in the slot of a count.

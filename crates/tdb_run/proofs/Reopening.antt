@@ -17,7 +17,7 @@ use Rattle.tdb_overlay.specs.Needed.{needed}
 use Rattle.tdb_overlay.specs.Log.{IsLog}
 use Rattle.tdb_overlay.specs.Reading.{OnlyReads}
 use Rattle.tdb_overlay.specs.Recovered.{IsRecovered}
-use Rattle.tdb_overlay.specs.Required.{IsRequired}
+use Rattle.tdb_overlay.specs.Required.{IsOpeningPiece}
 use Rattle.tdb_overlay.specs.StoreState.{StoreState, first_state}
 use Rattle.tdb_recover.specs.Damaged.{IsDamageOf}
 use Rattle.tdb_recover.specs.Premises.{Premises}
@@ -73,7 +73,7 @@ module _ {D : Type 0} (outside : D → Outside) (crash_states : D → CrashState
       (k.0, same (reads_on outside crash_states counts old mid reads told) sound history from (log_read outside crash_states counts old mid reads store history from told is) k.1)
 
 -- why no store was opened, by what was read
-pub explained_error : (store : Store) (old new : Outside) (from : StoreState) (error : OpenError) → ((damage : Damage) → error ≡ opening.Tampered damage → IsDamageOf old new (IsRequired old.trace.written store old.anchor) damage)
+pub explained_error : (store : Store) (old new : Outside) (from : StoreState) (error : OpenError) → ((damage : Damage) → error ≡ opening.Tampered damage → IsDamageOf old new (IsOpeningPiece old.trace.written store old.anchor) damage)
     → ((place : Place) → error ≡ opening.Form place → ⊥) → IsExplainedStop store old new from (status_after error)
 explained_error store old new from opening.Unformatted tampered form = tt
 explained_error store old new from (opening.Tampered damage) tampered form = tampered damage refl

@@ -15,7 +15,7 @@ use Rattle.tdb_chunk.specs.Known.{Knows}
 use Rattle.tdb_chunk.specs.declared.store.Store as memory
 use Rattle.tdb_overlay.specs.Found.{Store}
 use Rattle.tdb_overlay.specs.Log.{IsLog}
-use Rattle.tdb_overlay.specs.Required.{IsRequired}
+use Rattle.tdb_overlay.specs.Required.{IsOpeningPiece}
 use Rattle.tdb_overlay.specs.StoreState.{StoreState, commit_on}
 use Rattle.tdb_recover.specs.Damaged.{IsDamageOf}
 use Rattle.tdb_run.specs.LineResult.{HasAllOf, HasPartOf}
@@ -109,10 +109,10 @@ refusal_of (Full room) = refusals.NoRoom room
 refusal_of Ring = refusals.RingFull
 refusal_of Counter = refusals.CounterEnd
 
--- What the device or the store did, where a run says so: damage is that of a piece that the log needs; each piece that has
--- its digest fits the others; and the commit that makes the partitions is refused by its cause.
+-- What the device or the store did, where a run says so: damage is that of a text, the table or a list that the log needs;
+-- each piece that has its digest fits the others; and the commit that makes the partitions is refused by its cause.
 abbrev pub IsExplainedStop : Store → Outside → Outside → StoreState → Status → Type 0
-IsExplainedStop store old new from (Damaged (Tampered damage)) = IsDamageOf old new (IsRequired old.trace.written store old.anchor) damage
+IsExplainedStop store old new from (Damaged (Tampered damage)) = IsDamageOf old new (IsOpeningPiece old.trace.written store old.anchor) damage
 IsExplainedStop store old new from (Damaged (Form place)) = HasUserPartitions from.chunks → ⊥
 IsExplainedStop store old new from (Refused refusal) = HasNone from.chunks × (commit_on store from (opening_changes Plain) ≡ Err (refusal_of refusal))
 IsExplainedStop store old new from (AnchorCount formatted) = Unit {0}

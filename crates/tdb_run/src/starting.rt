@@ -1,6 +1,5 @@
 //! How a run comes to an open store: it makes a new one, or opens the one that is there.
 ghost use Rattle.std.specs.Prelude.{◌≡◌, ◌≢◌, ◌⊎◌, ◌↔◌, ◌<◌, ◌≤◌, ◌+◌, IfErr, IfOk, IsTrue, OnOk, Err, false, true};
-ghost use Rattle.tdb_append.specs.Put.{slot_place};
 ghost use Rattle.tdb_base.specs.declared.suite.Suite.TheVariants.{Plain};
 ghost use Rattle.tdb_model.specs.Opening.{opening_changes};
 ghost use Rattle.tdb_chunk.specs.Formatting.{plain_store};
@@ -24,18 +23,13 @@ ghost use Rattle.tdb_run.specs.declared.status.Status.TheVariants.{AnchorCount, 
 
 use crate::status::{Finding, Refusal, Status};
 use std::alloc::Global;
-use tdb_base::{PartId, Place};
+use tdb_append::slot_of;
+use tdb_base::PartId;
 use tdb_chunk::{Store, StoreError};
 use tdb_model::CommitError;
 use tdb_overlay::Keys;
 use tdb_platform::{Failed, Platform};
 use tdb_recover::{OpenError, recover};
-
-// How many slots for commit texts stand at the start of the device.
-const SLOTS: u64 = 1_024;
-
-// How many bytes a commit text has.
-const TEXT_LENGTH: u64 = 256;
 
 /// Makes a store of so many segments where the anchor's count is 0, with partitions 1 and 2.
 pub(crate) fn new_store<P: Platform>(
@@ -218,14 +212,6 @@ fn has_both(store: &Store) -> bool
     ensures { IsTrue result ↔ (IsWritable store.now.log.overlay 1 × IsWritable store.now.log.overlay 2) }
 {
     store.may_write(PartId(1)) && store.may_write(PartId(2))
-}
-
-// The place of the slot in which the text with a count stands.
-fn slot_of(count: u64) -> Place
-    requires { 0 < count }
-    ensures { result.0 ≡ slot_place count }
-{
-    Place((count - 1) % SLOTS * TEXT_LENGTH)
 }
 
 // The store after its partitions were made.

@@ -35,8 +35,8 @@ returns-in_err-write-clause-puts g c =
     let pieces = placed c.args.pieces.now in
     let all = writes_of c.args.head.now c.args.pieces.now c.args.text.now in
     let wrote = c.write.ensures in
-    let text : Placed = record { place = c.slot_of.result; bytes = c.args.text.now } in
-    let split : all ≡ pieces ++ text ∷ [] = ap (λ (n : ℕ). pieces ++ record { place = n; bytes = c.args.text.now } ∷ []) (sym c.slot_of.ensures) in
+    let text : Placed = record { place = c.slot_of.result.0; bytes = c.args.text.now } in
+    let split : all ≡ pieces ++ text ∷ [] = ap (λ (n : ℕ). pieces ++ record { place = n; bytes = c.args.text.now } ∷ []) (sym c.slot_of.ensures.place) in
     let so_far = all_written outside states counts old mid pieces c.write_all.result c.write_all.ensures.writes (ap is_ok c.in_ok-write_all.was) in
     before_advance outside states counts old new all (next_anchor c.args.head.now c.args.text.now) c.from_residual-in_err-write.result
     (write_failed outside states counts old mid new all pieces [] text split (split ∙ sym (append-nil (pieces ++ text ∷ []))) so_far
@@ -55,8 +55,8 @@ returns-in_err-sync-clause-puts g c =
     let all = writes_of c.args.head.now c.args.pieces.now c.args.text.now in
     let wrote = c.write.ensures in
     let synced = c.sync.ensures in
-    let text : Placed = record { place = c.slot_of.result; bytes = c.args.text.now } in
-    let split : all ≡ pieces ++ text ∷ [] = ap (λ (n : ℕ). pieces ++ record { place = n; bytes = c.args.text.now } ∷ []) (sym c.slot_of.ensures) in
+    let text : Placed = record { place = c.slot_of.result.0; bytes = c.args.text.now } in
+    let split : all ≡ pieces ++ text ∷ [] = ap (λ (n : ℕ). pieces ++ record { place = n; bytes = c.args.text.now } ∷ []) (sym c.slot_of.ensures.place) in
     let first = all_written outside states counts old c.write_all.new.platform pieces c.write_all.result c.write_all.ensures.writes (ap is_ok c.in_ok-write_all.was) in
     let second : Progress outside states old c.write.new.self all = subst (λ (l : List Placed). Progress outside states old c.write.new.self l) (sym split)
     (writes_one outside states counts old c.write_all.new.platform c.write.new.self pieces text first
@@ -86,8 +86,8 @@ returns-in_err-advance-clause-puts g c =
     let wrote = c.write.ensures in
     let synced = c.sync.ensures in
     let advanced = c.advance.ensures in
-    let text : Placed = record { place = c.slot_of.result; bytes = c.args.text.now } in
-    let split : all ≡ pieces ++ text ∷ [] = ap (λ (n : ℕ). pieces ++ record { place = n; bytes = c.args.text.now } ∷ []) (sym c.slot_of.ensures) in
+    let text : Placed = record { place = c.slot_of.result.0; bytes = c.args.text.now } in
+    let split : all ≡ pieces ++ text ∷ [] = ap (λ (n : ℕ). pieces ++ record { place = n; bytes = c.args.text.now } ∷ []) (sym c.slot_of.ensures.place) in
     let first = all_written outside states counts old c.write_all.new.platform pieces c.write_all.result c.write_all.ensures.writes (ap is_ok c.in_ok-write_all.was) in
     let second : Progress outside states old c.write.new.self all = subst (λ (l : List Placed). Progress outside states old c.write.new.self l) (sym split)
     (writes_one outside states counts old c.write_all.new.platform c.write.new.self pieces text first
@@ -103,7 +103,7 @@ returns-in_err-advance-clause-puts g c =
     subst (λ (i : List ℕ). EachHolds i all) (sym (synced.image (subst IsTrue (sym second.honest) h)))
     (subst (λ (l : List Placed). EachHolds (outside c.write.new.self).image l) (sym split)
     (holds_with_text pieces text (outside c.write_all.new.platform).image (outside c.write.new.self).image c.requires.in_segments
-    (in_ring c.args.head.now.count text c.slot_of.ensures c.told-text) (c.in_ok-write_all.ensures.holds h) (wrote.image at_pieces) stands)) in
+    (in_ring c.args.head.now.count text c.slot_of.ensures.place c.told-text) (c.in_ok-write_all.ensures.holds h) (wrote.image at_pieces) stands)) in
     let same : IsTrue (outside old).tells → (outside c.sync.new.self).anchor ≡ (outside old).anchor = λ t.
     synced.anchor (subst IsTrue (sym second.tells) t) ∙ wrote.anchor (subst IsTrue (sym first.tells) t) ∙ c.write_all.ensures.anchor t in
     let next_is : (c.args.head.now.count + 1, c.digest.result) ≡ next = ap (λ (m : List ℕ). (c.args.head.now.count + 1, m)) c.digest.ensures in
@@ -128,8 +128,8 @@ returns-clause-puts g c =
     let wrote = c.write.ensures in
     let synced = c.sync.ensures in
     let advanced = c.advance.ensures in
-    let text : Placed = record { place = c.slot_of.result; bytes = c.args.text.now } in
-    let split : all ≡ pieces ++ text ∷ [] = ap (λ (n : ℕ). pieces ++ record { place = n; bytes = c.args.text.now } ∷ []) (sym c.slot_of.ensures) in
+    let text : Placed = record { place = c.slot_of.result.0; bytes = c.args.text.now } in
+    let split : all ≡ pieces ++ text ∷ [] = ap (λ (n : ℕ). pieces ++ record { place = n; bytes = c.args.text.now } ∷ []) (sym c.slot_of.ensures.place) in
     let first = all_written outside states counts old c.write_all.new.platform pieces c.write_all.result c.write_all.ensures.writes (ap is_ok c.in_ok-write_all.was) in
     let second : Progress outside states old c.write.new.self all = subst (λ (l : List Placed). Progress outside states old c.write.new.self l) (sym split)
     (writes_one outside states counts old c.write_all.new.platform c.write.new.self pieces text first
@@ -145,7 +145,7 @@ returns-clause-puts g c =
     subst (λ (i : List ℕ). EachHolds i all) (sym (synced.image (subst IsTrue (sym second.honest) h)))
     (subst (λ (l : List Placed). EachHolds (outside c.write.new.self).image l) (sym split)
     (holds_with_text pieces text (outside c.write_all.new.platform).image (outside c.write.new.self).image c.requires.in_segments
-    (in_ring c.args.head.now.count text c.slot_of.ensures c.told-text) (c.in_ok-write_all.ensures.holds h) (wrote.image at_pieces) stands)) in
+    (in_ring c.args.head.now.count text c.slot_of.ensures.place c.told-text) (c.in_ok-write_all.ensures.holds h) (wrote.image at_pieces) stands)) in
     let same : IsTrue (outside old).tells → (outside c.sync.new.self).anchor ≡ (outside old).anchor = λ t.
     synced.anchor (subst IsTrue (sym second.tells) t) ∙ wrote.anchor (subst IsTrue (sym first.tells) t) ∙ c.write_all.ensures.anchor t in
     let next_is : (c.args.head.now.count + 1, c.digest.result) ≡ next = ap (λ (m : List ℕ). (c.args.head.now.count + 1, m)) c.digest.ensures in
@@ -169,8 +169,8 @@ returns-clause-holds g c h =
     let wrote = c.write.ensures in
     let synced = c.sync.ensures in
     let advanced = c.advance.ensures in
-    let text : Placed = record { place = c.slot_of.result; bytes = c.args.text.now } in
-    let split : all ≡ pieces ++ text ∷ [] = ap (λ (n : ℕ). pieces ++ record { place = n; bytes = c.args.text.now } ∷ []) (sym c.slot_of.ensures) in
+    let text : Placed = record { place = c.slot_of.result.0; bytes = c.args.text.now } in
+    let split : all ≡ pieces ++ text ∷ [] = ap (λ (n : ℕ). pieces ++ record { place = n; bytes = c.args.text.now } ∷ []) (sym c.slot_of.ensures.place) in
     let first = all_written outside states counts old c.write_all.new.platform pieces c.write_all.result c.write_all.ensures.writes (ap is_ok c.in_ok-write_all.was) in
     let second : Progress outside states old c.write.new.self all = subst (λ (l : List Placed). Progress outside states old c.write.new.self l) (sym split)
     (writes_one outside states counts old c.write_all.new.platform c.write.new.self pieces text first
@@ -186,7 +186,7 @@ returns-clause-holds g c h =
     subst (λ (i : List ℕ). EachHolds i all) (sym (synced.image (subst IsTrue (sym second.honest) h)))
     (subst (λ (l : List Placed). EachHolds (outside c.write.new.self).image l) (sym split)
     (holds_with_text pieces text (outside c.write_all.new.platform).image (outside c.write.new.self).image c.requires.in_segments
-    (in_ring c.args.head.now.count text c.slot_of.ensures c.told-text) (c.in_ok-write_all.ensures.holds h) (wrote.image at_pieces) stands)) in
+    (in_ring c.args.head.now.count text c.slot_of.ensures.place c.told-text) (c.in_ok-write_all.ensures.holds h) (wrote.image at_pieces) stands)) in
     subst (λ (i : List ℕ). EachHolds i all) (sym (advanced.image (subst IsTrue (sym third.honest) h))) (holds h)
 
 pub returns-in_err-write_all-clause-told : goal.returns-in_err-write_all-clause-told

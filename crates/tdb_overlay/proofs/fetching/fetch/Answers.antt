@@ -10,6 +10,10 @@ use Rattle.tdb_base.specs.Trace.{with_read}
 use Rattle.tdb_overlay.proofs.ReadingLaws.{reads_nothing, reads_none, reads_one}
 use Rattle.tdb_overlay.proofs.fetching.fetch.Goals as goal
 
+pub returns-then-eq-clause-digest : goal.returns-then-eq-clause-digest
+returns-then-eq-clause-digest g c =
+    sym (c.digest.ensures ∙ ap sha256 c.as_slice.ensures.value) ∙ (bytes_eq-Decides c.digest.result c.args.piece.now.digest.0).0 (sym c.if-eq.ensures)
+
 pub returns-in_default-clause-reads : goal.returns-in_default-clause-reads
 returns-in_default-clause-reads g c = reads_nothing g.P.Platform.outside g.P.Platform.crash_states g.met.P.Platform.counts c.args.platform.now
 

@@ -5,17 +5,44 @@ use Rattle.tdb_base.specs.declared.piece.Piece.{Piece}
 use Rattle.tdb_append.specs.declared.head.Head.{Head}
 use Rattle.tdb_overlay.specs.declared.recovered.Recovered.{Recovered}
 use Rattle.tdb_overlay.specs.Needed.{needed}
-use Rattle.tdb_overlay.specs.Required.{IsRequired}
+use Rattle.tdb_overlay.specs.Required.{IsOpeningPiece}
 use Rattle.tdb_overlay.proofs.ReadingLaws.{reads_then}
 use Rattle.tdb_recover.specs.Chain.{EndsWith}
 use Rattle.tdb_recover.specs.Explained.{IsExplained}
 use Rattle.tdb_recover.specs.Records.{IsTableIn}
 use Rattle.tdb_recover.specs.Replay.{IsReplayOf}
 use Rattle.tdb_recover.proofs.Answering.{if_err_and}
-use Rattle.tdb_recover.proofs.Bases.{base_step, given_at_chain, is_recovered, rest_begins, table_in, table_required}
+use Rattle.tdb_recover.proofs.Bases.{base_step, given_at_chain, is_recovered, rest_begins, table_in, table_opening}
 use Rattle.tdb_recover.proofs.Composing.{explained_then, given_before, given_then, tells_then, written_then, written_back}
 use Rattle.tdb_recover.proofs.Showing.{explained_as}
 use Rattle.tdb_recover.proofs.opening.open_log.Goals as goal
+
+pub returns-clause-recovered : goal.returns-clause-recovered
+returns-clause-recovered g c t whole given at =
+    let outside = g.P.Platform.outside in
+    let states = g.P.Platform.crash_states in
+    let numbered = g.met.P.Platform.numbered in
+    let old = c.args.platform.now in
+    let mid = c.read_chain.new.platform in
+    let then = c.read_segments.new.platform in
+    let new = c.replay.new.platform in
+    let first = c.read_chain.ensures.reads in
+    let second = c.read_segments.ensures.reads in
+    let both = reads_then outside states g.met.P.Platform.counts old mid then first second in
+    let keys = c.args.keys.now in
+    let chain = c.in_ok-chain.chain in
+    let later = reverse chain.commits.items in
+    let r : Recovered = record { head = record { count = c.args.count; mark = c.args.mark; base = chain.base.count }; segments = c.in_ok-segments.segments; overlay = c.new.result } in
+    let told = tells_then outside states old then both t in
+    let ends = c.in_ok-chain.ensures.ends t whole (given_at_chain outside states numbered old mid then new first second both c.replay.ensures.reads t keys whole given) at in
+    let rest = rest_begins outside states numbered old mid then new first second both c.replay.ensures.reads t keys whole given chain.base later c.in_ok-chain.ensures.format c.in_ok-chain.ensures.base ends r
+    (c.in_ok-segments.ensures.segments (tells_then outside states old mid first t)) c.new.ensures in
+    let kept = c.in_ok-replay.ensures.replayed told whole (given_then outside states old then both t (outside new).trace keys whole given) rest
+    (written_then outside states old then both t (λ ws. EndsWith ws keys whole.chain chain.base later) ends) in
+    let head : c.replay.new.log.head ≡ r.head = c.in_ok-replay.ensures.head in
+    is_recovered (outside old).trace.written (outside new).trace keys whole given chain.base later c.in_ok-chain.ensures.format c.in_ok-chain.ensures.base ends c.args.count c.args.mark.0 c.replay.new.log c.requires at
+    (ap (λ (h : Head). h.count) head) (ap (λ (h : Head). h.base) head)
+    (written_back outside states old then both t (λ ws. IsReplayOf (needed ws whole.store whole.anchor) whole.store c.replay.new.log whole.last) kept)
 
 pub returns-then-is_some-clause-explained : goal.returns-then-is_some-clause-explained
 returns-then-is_some-clause-explained g c t whole given at =
@@ -49,9 +76,9 @@ returns-in_err-segments-clause-explained g c =
     let own = c.in_ok-chain.ensures.base in
     let step = base_step (outside old).trace.written (outside new).trace keys whole given chain.base (reverse chain.commits.items) format own ends in
     let table = table_in (outside old).trace.written (outside new).trace keys whole given chain.base (reverse chain.commits.items) format own ends step in
-    subst (IsExplained (outside old) (outside new) (IsRequired (outside old).trace.written whole.store whole.anchor)) (sym is)
-    (explained_as (outside old) (outside new) (λ p. p ≡ chain.base.first) (IsRequired (outside old).trace.written whole.store whole.anchor) c.in_err-segments.field-0.0
-    (λ piece same. table_required (outside old).trace.written (outside new).trace keys whole given chain.base (reverse chain.commits.items) format own ends piece same)
+    subst (IsExplained (outside old) (outside new) (IsOpeningPiece (outside old).trace.written whole.store whole.anchor)) (sym is)
+    (explained_as (outside old) (outside new) (λ p. p ≡ chain.base.first) (IsOpeningPiece (outside old).trace.written whole.store whole.anchor) c.in_err-segments.field-0.0
+    (λ piece same. table_opening (outside old).trace.written (outside new).trace keys whole given chain.base (reverse chain.commits.items) format own ends piece same)
     (explained_then outside states old mid first t new (λ p. p ≡ chain.base.first) c.in_err-segments.field-0.0
     (c.in_err-segments.ensures.explained then (written_then outside states old mid first t (λ ws. IsTableIn ws (outside new).trace keys chain.base) table.0)))))
 
@@ -87,10 +114,10 @@ returns-in_err-replay-clause-explained g c =
     let ends = c.in_ok-chain.ensures.ends t whole (given_at_chain outside states numbered old mid then new first second both c.replay.ensures.reads t keys whole given) at in
     let rest = rest_begins outside states numbered old mid then new first second both c.replay.ensures.reads t keys whole given chain.base later c.in_ok-chain.ensures.format c.in_ok-chain.ensures.base ends r
     (c.in_ok-segments.ensures.segments (tells_then outside states old mid first t)) c.new.ensures in
-    subst (IsExplained (outside old) (outside new) (IsRequired (outside old).trace.written whole.store whole.anchor)) (sym is)
-    (explained_as (outside old) (outside new) (IsRequired (outside then).trace.written whole.store whole.anchor) (IsRequired (outside old).trace.written whole.store whole.anchor) c.in_err-replay.field-0.0
-    (λ piece needed. written_back outside states old then both t (λ ws. IsRequired ws whole.store whole.anchor piece) needed)
-    (explained_then outside states old then both t new (IsRequired (outside then).trace.written whole.store whole.anchor) c.in_err-replay.field-0.0
+    subst (IsExplained (outside old) (outside new) (IsOpeningPiece (outside old).trace.written whole.store whole.anchor)) (sym is)
+    (explained_as (outside old) (outside new) (IsOpeningPiece (outside then).trace.written whole.store whole.anchor) (IsOpeningPiece (outside old).trace.written whole.store whole.anchor) c.in_err-replay.field-0.0
+    (λ piece needed. written_back outside states old then both t (λ ws. IsOpeningPiece ws whole.store whole.anchor piece) needed)
+    (explained_then outside states old then both t new (IsOpeningPiece (outside then).trace.written whole.store whole.anchor) c.in_err-replay.field-0.0
     (c.in_err-replay.ensures.explained told whole (given_then outside states old then both t (outside new).trace keys whole given) rest
     (written_then outside states old then both t (λ ws. EndsWith ws keys whole.chain chain.base later) ends)))))
 
@@ -103,30 +130,3 @@ returns-clause-reads g c =
     let then = c.read_segments.new.platform in
     let both = reads_then outside states counts old c.read_chain.new.platform then c.read_chain.ensures.reads c.read_segments.ensures.reads in
     reads_then outside states counts old then c.replay.new.platform both c.replay.ensures.reads
-
-pub returns-clause-recovered : goal.returns-clause-recovered
-returns-clause-recovered g c t whole given at =
-    let outside = g.P.Platform.outside in
-    let states = g.P.Platform.crash_states in
-    let numbered = g.met.P.Platform.numbered in
-    let old = c.args.platform.now in
-    let mid = c.read_chain.new.platform in
-    let then = c.read_segments.new.platform in
-    let new = c.replay.new.platform in
-    let first = c.read_chain.ensures.reads in
-    let second = c.read_segments.ensures.reads in
-    let both = reads_then outside states g.met.P.Platform.counts old mid then first second in
-    let keys = c.args.keys.now in
-    let chain = c.in_ok-chain.chain in
-    let later = reverse chain.commits.items in
-    let r : Recovered = record { head = record { count = c.args.count; mark = c.args.mark; base = chain.base.count }; segments = c.in_ok-segments.segments; overlay = c.new.result } in
-    let told = tells_then outside states old then both t in
-    let ends = c.in_ok-chain.ensures.ends t whole (given_at_chain outside states numbered old mid then new first second both c.replay.ensures.reads t keys whole given) at in
-    let rest = rest_begins outside states numbered old mid then new first second both c.replay.ensures.reads t keys whole given chain.base later c.in_ok-chain.ensures.format c.in_ok-chain.ensures.base ends r
-    (c.in_ok-segments.ensures.segments (tells_then outside states old mid first t)) c.new.ensures in
-    let kept = c.in_ok-replay.ensures.replayed told whole (given_then outside states old then both t (outside new).trace keys whole given) rest
-    (written_then outside states old then both t (λ ws. EndsWith ws keys whole.chain chain.base later) ends) in
-    let head : c.replay.new.log.head ≡ r.head = c.in_ok-replay.ensures.head in
-    is_recovered (outside old).trace.written (outside new).trace keys whole given chain.base later c.in_ok-chain.ensures.format c.in_ok-chain.ensures.base ends c.args.count c.args.mark.0 c.replay.new.log c.requires at
-    (ap (λ (h : Head). h.count) head) (ap (λ (h : Head). h.base) head)
-    (written_back outside states old then both t (λ ws. IsReplayOf (needed ws whole.store whole.anchor) whole.store c.replay.new.log whole.last) kept)

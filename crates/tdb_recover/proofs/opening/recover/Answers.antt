@@ -2,7 +2,7 @@ use Rattle.std.proofs.Common.{List, sym}
 use Rattle.tdb_base.specs.Trace.{WrittenPiece}
 use Rattle.tdb_overlay.specs.Needed.{needed}
 use Rattle.tdb_overlay.specs.Recovered.{IsRecovered}
-use Rattle.tdb_overlay.specs.Required.{IsRequired}
+use Rattle.tdb_overlay.specs.Required.{IsOpeningPiece}
 use Rattle.tdb_overlay.proofs.ReadingLaws.{reads_none, reads_then}
 use Rattle.tdb_recover.specs.declared.error.OpenError.TheVariants.{Tampered, Form}
 use Rattle.tdb_recover.proofs.Answering.{if_err_is, if_ok_as}
@@ -58,9 +58,9 @@ returns-clause-tampered g c damage answer store history last premises =
     let first = reads_none outside states g.met.P.Platform.counts old mid c.anchor.result
     c.anchor.ensures.trace c.anchor.ensures.image c.anchor.ensures.anchor c.anchor.ensures.now c.anchor.ensures.time c.anchor.ensures.told in
     let whole = whole_log (outside old) (outside new) keys store history last premises in
-    explained_as (outside old) (outside new) (IsRequired (outside mid).trace.written store (outside old).anchor) (IsRequired (outside old).trace.written store (outside old).anchor) (Tampered damage)
-    (λ piece needed. written_back outside states old mid first t (λ (ws : List WrittenPiece). IsRequired ws store (outside old).anchor piece) needed)
-    (explained_then outside states old mid first t new (IsRequired (outside mid).trace.written store (outside old).anchor) (Tampered damage)
+    explained_as (outside old) (outside new) (IsOpeningPiece (outside mid).trace.written store (outside old).anchor) (IsOpeningPiece (outside old).trace.written store (outside old).anchor) (Tampered damage)
+    (λ piece needed. written_back outside states old mid first t (λ (ws : List WrittenPiece). IsOpeningPiece ws store (outside old).anchor piece) needed)
+    (explained_then outside states old mid first t new (IsOpeningPiece (outside mid).trace.written store (outside old).anchor) (Tampered damage)
     (if_err_is c.open_log.result (Tampered damage) _ answer c.open_log.ensures.explained (tells_then outside states old mid first t) whole
     (given_then outside states old mid first t (outside new).trace keys whole (is_given (outside old) (outside new) keys store history last premises)) (sym (c.in-Ok.ensures.given t))))
 

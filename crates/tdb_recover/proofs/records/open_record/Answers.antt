@@ -8,15 +8,6 @@ use Rattle.tdb_recover.proofs.Answering.{if_err_and}
 use Rattle.tdb_recover.proofs.Showing.{piece_error, read_is}
 use Rattle.tdb_recover.proofs.records.open_record.Goals as goal
 
-pub returns-in_err-bytes-clause-explained : goal.returns-in_err-bytes-clause-explained
-returns-in_err-bytes-clause-explained g c t =
-    let old = g.P.Platform.outside c.args.platform.now in
-    let new = g.P.Platform.outside c.fetch.new.platform in
-    if_err_and c.from_residual.result _ _ c.from_residual.ensures.1
-    (λ e is plain given.
-    subst (IsExplained old new (λ p. p ≡ c.args.piece.now)) (sym is)
-    (piece_error old new c.args.piece.now c.in_err-bytes.field-0.0 (λ damage same. let h = c.in_err-bytes.ensures.tampered damage (ap Err same) in (h.0, h.1, h.2 t))))
-
 pub returns-in-Ok-clause-plain : goal.returns-in-Ok-clause-plain
 returns-in-Ok-clause-plain g c t plain given =
     let old = g.P.Platform.outside c.args.platform.now in
@@ -28,6 +19,15 @@ returns-in-Ok-clause-plain g c t plain given =
     (subst (λ (key : List ℕ). IsSealedRecord key c.args.name.now c.in-Ok.plain.items given.sealed) c.system.ensures
     (subst (λ (b : List ℕ). IsSealedRecord c.system.result.now.0 c.args.name.now c.in-Ok.plain.items b) (c.as_slice.ensures.value ∙ is) c.in-Ok.ensures.found))
     given.opened
+
+pub returns-in_err-bytes-clause-explained : goal.returns-in_err-bytes-clause-explained
+returns-in_err-bytes-clause-explained g c t =
+    let old = g.P.Platform.outside c.args.platform.now in
+    let new = g.P.Platform.outside c.fetch.new.platform in
+    if_err_and c.from_residual.result _ _ c.from_residual.ensures.1
+    (λ e is plain given.
+    subst (IsExplained old new (λ p. p ≡ c.args.piece.now)) (sym is)
+    (piece_error old new c.args.piece.now c.in_err-bytes.field-0.0 (λ damage same. let h = c.in_err-bytes.ensures.tampered damage (ap Err same) in (h.0, h.1, h.2 t))))
 
 pub returns-in-Err-Form-clause-explained : goal.returns-in-Err-Form-clause-explained
 returns-in-Err-Form-clause-explained g c t plain given =

@@ -3,7 +3,7 @@ use Rattle.std.specs.List.{AllByRecursion}
 use Rattle.std.proofs.lemmas.List.{nil_from_length}
 use Rattle.tdb_mark.specs.declared.commit.Commit.{Commit}
 use Rattle.tdb_overlay.specs.Needed.{needed}
-use Rattle.tdb_overlay.specs.Required.{IsRequired}
+use Rattle.tdb_overlay.specs.Required.{IsOpeningPiece}
 use Rattle.tdb_overlay.proofs.ReadingLaws.{reads_nothing, reads_then}
 use Rattle.tdb_recover.specs.Chain.{IsBehind}
 use Rattle.tdb_recover.specs.Explained.{IsCaused, IsExplained}
@@ -11,7 +11,7 @@ use Rattle.tdb_recover.specs.Replay.{IsCommitIn, IsReplayOf, IsRest}
 use Rattle.tdb_recover.proofs.Answering.{if_err_and}
 use Rattle.tdb_recover.proofs.Behind.{reverse_push}
 use Rattle.tdb_recover.proofs.Composing.{caused_later, explained_then, given_before, tells_then, written_then, written_back}
-use Rattle.tdb_recover.proofs.Rest.{list_required, next_commit, rest_ends, rest_goes}
+use Rattle.tdb_recover.proofs.Rest.{list_opening, next_commit, rest_ends, rest_goes}
 use Rattle.tdb_recover.proofs.Showing.{explained_as}
 use Rattle.tdb_recover.proofs.replay.replay.Goals as goal
 
@@ -94,10 +94,10 @@ returns-in_err-replay_list-clause-explained g c =
     let here : IsRest (outside old).trace.written whole (text ∷ reverse left) c.loop-text.log =
     subst (λ (l : List Commit). IsRest (outside old).trace.written whole l c.loop-text.log) popped (so_far.rest t whole before rest ends) in
     let next = next_commit (outside old).trace.written (outside new).trace keys whole given base text so_far.done.0 (reverse left) (reverse c.args.chain.commits.items) c.loop-text.log ends (so_far.done.1 ∙ ap (λ (l : List Commit). so_far.done.0 ++ l) popped) behind.0 here in
-    subst (IsExplained (outside old) (outside new) (IsRequired (outside old).trace.written whole.store whole.anchor)) (sym is)
-    (explained_as (outside old) (outside new) (λ p. p ≡ text.first) (IsRequired (outside old).trace.written whole.store whole.anchor) c.in_err-replay_list.field-0.0
+    subst (IsExplained (outside old) (outside new) (IsOpeningPiece (outside old).trace.written whole.store whole.anchor)) (sym is)
+    (explained_as (outside old) (outside new) (λ p. p ≡ text.first) (IsOpeningPiece (outside old).trace.written whole.store whole.anchor) c.in_err-replay_list.field-0.0
     (λ piece same.
-    list_required (outside old).trace.written (outside new).trace keys whole given base text so_far.done.0 (reverse left) (reverse c.args.chain.commits.items) piece ends
+    list_opening (outside old).trace.written (outside new).trace keys whole given base text so_far.done.0 (reverse left) (reverse c.args.chain.commits.items) piece ends
     (so_far.done.1 ∙ ap (λ (l : List Commit). so_far.done.0 ++ l) popped) behind.0 same)
     (explained_then outside states old mid first t new (λ p. p ≡ text.first) c.in_err-replay_list.field-0.0
     (c.in_err-replay_list.ensures.explained then whole.store whole.anchor here.state next.changes next.after

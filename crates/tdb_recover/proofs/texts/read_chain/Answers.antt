@@ -1,6 +1,6 @@
 use Rattle.std.proofs.Common.{◌∙◌, ◌∷◌, List, arith, ap, subst, sym, reverse}
 use Rattle.tdb_mark.specs.declared.commit.Commit.{Commit}
-use Rattle.tdb_overlay.specs.Required.{IsRequired}
+use Rattle.tdb_overlay.specs.Required.{IsOpeningPiece}
 use Rattle.tdb_overlay.proofs.ReadingLaws.{reads_then}
 use Rattle.std.specs.List.{AllByRecursion}
 use Rattle.tdb_recover.specs.Chain.{EndsWith, IsBehind}
@@ -51,10 +51,10 @@ returns-in_err-earlier-clause-explained g c =
     let then = tells_then outside states old mid first t in
     let before = given_before (outside old).trace.written (outside mid).trace (outside new).trace keys log (g.met.P.Platform.numbered mid then) (c.read_before.ensures.reads.grows then) given in
     let ends = c.loop-text.invariant.ends t log before at in
-    subst (IsExplained (outside old) (outside new) (IsRequired (outside old).trace.written log.store log.anchor)) (sym is)
-    (explained_as (outside old) (outside new) (IsRequired (outside mid).trace.written log.store log.anchor) (IsRequired (outside old).trace.written log.store log.anchor) c.in_err-earlier.field-0.0
-    (λ piece needed. written_back outside states old mid first t (λ ws. IsRequired ws log.store log.anchor piece) needed)
-    (explained_then outside states old mid first t new (IsRequired (outside mid).trace.written log.store log.anchor) c.in_err-earlier.field-0.0
+    subst (IsExplained (outside old) (outside new) (IsOpeningPiece (outside old).trace.written log.store log.anchor)) (sym is)
+    (explained_as (outside old) (outside new) (IsOpeningPiece (outside mid).trace.written log.store log.anchor) (IsOpeningPiece (outside old).trace.written log.store log.anchor) c.in_err-earlier.field-0.0
+    (λ piece needed. written_back outside states old mid first t (λ ws. IsOpeningPiece ws log.store log.anchor piece) needed)
+    (explained_then outside states old mid first t new (IsOpeningPiece (outside mid).trace.written log.store log.anchor) c.in_err-earlier.field-0.0
     (c.in_err-earlier.ensures.explained then log (given_then outside states old mid first t (outside new).trace keys log given) later
     (written_then outside states old mid first t (λ ws. EndsWith ws keys log.chain c.loop-text.text later) ends)))))
 

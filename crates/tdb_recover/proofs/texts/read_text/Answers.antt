@@ -8,6 +8,16 @@ use Rattle.tdb_recover.proofs.Answering.{if_err_and}
 use Rattle.tdb_recover.proofs.Showing.{text_read, text_error, some_none}
 use Rattle.tdb_recover.proofs.texts.read_text.Goals as goal
 
+some_is : (c d : Commit) → Some c ≡ Some d → c ≡ d
+some_is c d e = cc
+
+pub returns-in-Some-clause-text : goal.returns-in-Some-clause-text
+returns-in-Some-clause-text g c t d of =
+    let old = g.P.Platform.outside c.args.platform.now in
+    let new = g.P.Platform.outside c.fetch_text.new.platform in
+    let reads = text_read old.trace new.trace (slot_place c.args.count) 256 c.args.keys.now c.args.mark.now.0 c.in_ok-bytes.bytes d (c.in_ok-bytes.ensures.read t) c.in_ok-bytes.ensures.digest of in
+    some_is c.in-Some.text d (c.in-Some.ensures.value ∙ ap (λ (k : List ℕ). commit_of k c.in_ok-bytes.bytes) c.commit.ensures ∙ reads)
+
 pub returns-in_err-bytes-clause-explained : goal.returns-in_err-bytes-clause-explained
 returns-in_err-bytes-clause-explained g c t =
     let old = g.P.Platform.outside c.args.platform.now in
@@ -18,16 +28,6 @@ returns-in_err-bytes-clause-explained g c t =
     subst (IsExplained old new (λ p. p ≡ piece)) (sym is)
     (text_error old new c.args.keys.now piece d c.in_err-bytes.field-0.0
     (λ damage same. let h = c.in_err-bytes.ensures.tampered damage (ap Err same) in (h.0, h.1, h.2 t)) of))
-
-some_is : (c d : Commit) → Some c ≡ Some d → c ≡ d
-some_is c d e = cc
-
-pub returns-in-Some-clause-text : goal.returns-in-Some-clause-text
-returns-in-Some-clause-text g c t d of =
-    let old = g.P.Platform.outside c.args.platform.now in
-    let new = g.P.Platform.outside c.fetch_text.new.platform in
-    let reads = text_read old.trace new.trace (slot_place c.args.count) 256 c.args.keys.now c.args.mark.now.0 c.in_ok-bytes.bytes d (c.in_ok-bytes.ensures.read t) c.in_ok-bytes.ensures.digest of in
-    some_is c.in-Some.text d (c.in-Some.ensures.value ∙ ap (λ (k : List ℕ). commit_of k c.in_ok-bytes.bytes) c.commit.ensures ∙ reads)
 
 pub returns-in-None-clause-explained : goal.returns-in-None-clause-explained
 returns-in-None-clause-explained g c t d of =
