@@ -1,6 +1,7 @@
 -- The start of a log: where its table is placed, and what its text adds.
 use Rattle.std.proofs.Common.{◌≡◌, ℕ, zero, suc, ◌+◌, ◌-◌, ◌/◌, ◌≤◌, Bool, true, not, List, [], ◌∷◌, length, Option, Some, None, Ok, Result, IsTrue, ◌++◌, replicate, inl, inr, refl, sym, ap, subst, ◌∙◌, arith}
 use Rattle.std.proofs.lemmas.Bool.{false≢true, cond-true, eqb-true, eq-eqb, or_left}
+use Rattle.std.proofs.lemmas.Option.{same_Some}
 use Rattle.std.specs.List.{filter, range_with_len}
 use Rattle.std.specs.Cmp.{nat_cmp_total, unsigned_tied}
 use Rattle.std.specs.Ordering.{nat_cmp, eq_by_cmp}
@@ -123,14 +124,11 @@ module _ (secret : List ℕ) (head : Head) (segments : ℕ) (first : Piece) (tab
     is_first = at.1;
   }
 
-no_chain : (chain : List Commit) → ◌≡◌ {A = Option (List Commit)} (Some []) (Some chain) → [] ≡ chain
-no_chain chain e = cc
-
 -- an anchor of count 0 has no text
 pub starts_first : (o : Outside) (store : Store) (before : History) (from : StoreState) → o.anchor.0 ≡ 0 → IsLog o.trace.written store o.anchor before from → from ≡ first_state store
 starts_first o store before from start is =
     let ends = subst (λ (n : ℕ). commit_chain o.trace.written (commit_of (commit_key_of store.secret)) n o.anchor.1 ≡ Some is.chain) start is.ends in
-    let none = subst (λ (chain : List Commit). IsLogOf (in_trace o.trace.written) store (first_state store) chain before from) (sym (no_chain is.chain ends)) is.tells in
+    let none = subst (λ (chain : List Commit). IsLogOf (in_trace o.trace.written) store (first_state store) chain before from) (sym (same_Some [] is.chain ends)) is.tells in
     none.1
 
 -- the first text is a checkpoint on no text
