@@ -46,6 +46,14 @@ pub with_all_written-push : (t : Trace) (ps : List Placed) (p : Placed) → with
 with_all_written-push t [] p = refl
 with_all_written-push t (q ∷ qs) p = with_all_written-push (with_written t q.place q.bytes) qs p
 
+reads_stay : (t : Trace) (ps : List Placed) → (with_all_written t ps).read ≡ t.read
+reads_stay t [] = refl
+reads_stay t (p ∷ ps) = reads_stay (with_written t p.place p.bytes) ps
+
+-- what only writes reads nothing
+pub unread_by : (t u : Trace) (ps : List Placed) → u ≡ with_all_written t ps → u.read ≡ t.read
+unread_by t u ps wrote = ap (λ (v : Trace). v.read) wrote ∙ reads_stay t ps
+
 was_written_more : (ws more : List WrittenPiece) (p : List ℕ) → WasWritten ws p → WasWritten (ws ++ more) p
 was_written_more [] more p h = absurd h
 was_written_more (w ∷ ws) more p (inl e) = inl e

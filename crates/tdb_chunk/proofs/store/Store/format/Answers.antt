@@ -14,6 +14,7 @@ use Rattle.tdb_chunk.specs.Formatting.{Formatted, plain_store}
 use Rattle.tdb_chunk.specs.Text.{anchor_of, text_in_slot}
 use Rattle.tdb_chunk.proofs.Keeping.{format_keeps}
 use Rattle.tdb_chunk.proofs.Growing.{added_always, added_err, added_ok, none_added}
+use Rattle.tdb_chunk.proofs.Logs.{unread_by}
 use Rattle.tdb_chunk.proofs.Starting.{format_added, nothing_covered}
 use Rattle.tdb_chunk.proofs.store.Store.format.Goals as goal
 
@@ -61,6 +62,12 @@ returns-in_default-clause-sealed g c =
 pub returns-clause-sealed : goal.returns-clause-sealed
 returns-clause-sealed g c =
     c.put_commit.ensures.sealed (subst (λ (l : List Laid). All (λ (p : Placed). IsRecord c.args.keys p.bytes) (placed l)) (sym c.deref.ensures.value) c.in_ok-commit.ensures.start.laid.sealed)
+
+pub returns-in_default-clause-unread : goal.returns-in_default-clause-unread
+returns-in_default-clause-unread g c tells = unread_by _ _ c.put_commit.ensures.puts.done (c.put_commit.ensures.puts.wrote.trace tells)
+
+pub returns-clause-unread : goal.returns-clause-unread
+returns-clause-unread g c tells = unread_by _ _ c.put_commit.ensures.puts.done (c.put_commit.ensures.puts.wrote.trace tells)
 
 pub returns-clause-knows : goal.returns-clause-knows
 returns-clause-knows g c =
