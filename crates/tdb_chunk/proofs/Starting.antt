@@ -169,9 +169,3 @@ format_added outside crash_states counts secret head segments c ps space old new
     put_added outside crash_states counts (λ _. Unit {0}) (Formatted (plain_store secret segments)) (plain_store secret segments) old new 0 (replicate 32 0) (text_in_slot secret c) ps c reads
     (omega (arith, ap (λ (k : Commit). k.count) s.commit, zero_count)) (ap (λ (k : Commit). k.prev.0) s.commit ∙ zeros) (λ zero. refl) (first_steps (outside old) secret head segments c ps space s zero_count start) tells start (inr refl) settled
     result puts advanced only
-
--- where nothing is told, there is no partition
-pub nothing_covered : (finds : Finds) (secret : List ℕ) → IsCovering finds secret no_covers no_partitions
-nothing_covered finds secret part =
-    subst (λ (o : Option Covered). IsCoveredAt finds secret o (map.get no_partitions part)) (sym (map.get-empty {X = Covered} nat_cmp part))
-    (subst (λ (o : Option Partition). IsCoveredAt finds secret None o) (sym (map.get-empty {X = Partition} nat_cmp part)) tt)
