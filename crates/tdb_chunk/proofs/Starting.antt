@@ -1,5 +1,5 @@
 -- The start of a log: where its table is placed, and what its text adds.
-use Rattle.std.proofs.Common.{◌≡◌, ℕ, zero, suc, ◌+◌, ◌-◌, ◌/◌, ◌≤◌, Bool, true, not, List, [], ◌∷◌, length, Option, Some, None, Ok, Result, IsTrue, ◌++◌, replicate, inl, inr, refl, sym, ap, subst, ◌∙◌, arith}
+use Rattle.std.proofs.Common.{◌≡◌, ℕ, zero, suc, ◌+◌, ◌-◌, ◌/◌, ◌≤◌, Bool, true, not, List, [], ◌∷◌, length, Some, Ok, Result, IsTrue, ◌++◌, replicate, inl, inr, refl, sym, ap, subst, ◌∙◌, arith}
 use Rattle.std.proofs.lemmas.Bool.{false≢true, cond-true, eqb-true, eq-eqb, or_left}
 use Rattle.std.proofs.lemmas.Option.{same_Some}
 use Rattle.std.specs.List.{filter, range_with_len}
@@ -29,10 +29,7 @@ use Rattle.tdb_seg.specs.SegmentSpace.{SegmentSpace, IsSegmentSpace, at_free_seg
 use Rattle.tdb_seg.specs.TableSpace.{table_space, used_in}
 use Rattle.tdb_seg.specs.InsideLaws.{contains-used_in}
 use Rattle.tdb_seg.proofs.Placing.{at_free-some, next-past, place-placed}
-use Rattle.std.specs.FinMap as map
-use Rattle.tdb_model.specs.State.{Partition}
-use Rattle.tdb_overlay.specs.Covering.{Covered, IsCoveredAt, IsCovering, no_covers}
-use Rattle.tdb_overlay.specs.Found.{Finds, Store}
+use Rattle.tdb_overlay.specs.Found.{Store}
 use Rattle.tdb_overlay.specs.Keys.{system_key}
 use Rattle.tdb_overlay.specs.Log.{IsCheckpointOn, IsLog, IsLogOf, IsStep, end_of}
 use Rattle.tdb_overlay.specs.Found.{in_trace}
