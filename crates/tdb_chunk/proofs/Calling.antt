@@ -31,7 +31,7 @@ use Rattle.tdb_overlay.specs.Log.{IsLog}
 use Rattle.tdb_overlay.specs.SealedOnly.{OnlySealed}
 use Rattle.tdb_overlay.specs.StoreState.{StoreState, commit_on, committed}
 use Rattle.tdb_mark.specs.CommitChain.{commit_chain}
-use Rattle.tdb_chunk.specs.Committing.{AddedFrom, IsCommitCall, IsLonger, is_refusal}
+use Rattle.tdb_chunk.specs.Committing.{AddedFrom, IsCommitCall, IsKept, IsLonger, is_refusal}
 use Rattle.tdb_chunk.specs.Known.{IsAtHead, Knows, store_of}
 use Rattle.tdb_chunk.specs.LaidOut.{IsFreshIn}
 use Rattle.tdb_chunk.specs.Preparing.{IsNext, IsPrepared, refused_by}
@@ -44,7 +44,7 @@ use Rattle.tdb_chunk.proofs.Committing.{allowed_on, next_known, next_step}
 use Rattle.tdb_chunk.proofs.Growing.{Counts, Steps, added_err, added_ok, none_added, put_added}
 use Rattle.tdb_chunk.proofs.Keeping.{put_keeps}
 use Rattle.tdb_chunk.proofs.Laying.{sealed_none}
-use Rattle.tdb_chunk.proofs.Logs.{found_in_put, grows_all, put_adds, longer_chain, follows_is}
+use Rattle.tdb_chunk.proofs.Logs.{found_in_put, grows_all, put_adds, longer_chain, follows_is, unread_by}
 use Rattle.std.proofs.lemmas.List.{append-nil}
 
 no_fault : (e : CommitError) → ◌≡◌ {A = CommitError} e Fault → IsTrue (is_refusal e) → ⊥
@@ -59,14 +59,15 @@ ok_is_no_err x is = cc
 -- a commit that was refused, or wanted memory, before anything was written
 pub refused_call : {D : Type 0} (outside : D → Outside) (crash_states : D → CrashStates) (counts : Counts outside crash_states) (changes : List Change) (was now_is : memory.Store) (p : D) (e : CommitError) → IsSettled outside crash_states p → e ≢ Fault
     → (IsTrue (is_refusal e) → now_is ≡ was) → ((last : StoreState) → Knows (outside p) was last → IsTrue (is_refusal e) → commit_on (store_of was) last changes ≡ Err e)
-    → IsCommitCall {T = Unit {0}} outside crash_states changes was now_is p p (Err e)
-refused_call {D} outside crash_states counts changes was now_is p e settled isnt same refuses = record {
+    → IsKept was now_is → IsCommitCall {T = Unit {0}} outside crash_states changes was now_is p p (Err e)
+refused_call {D} outside crash_states counts changes was now_is p e settled isnt same refuses kept = record {
   added = λ tells. none_added {T = Unit {0}} {E = CommitError} outside crash_states counts (Knows (outside p) was) (OneCommit (store_of was) changes) (store_of was) p (Err e) tells settled refl;
   knows = λ tells. tt;
   whole = λ tells unforged before from is known intact. intact;
   refused = λ last known refusal. refuses last known refusal;
   allowed = λ last known. tt;
   fault_allowed = λ is. absurd (isnt (fault_of {T = Unit {0}} e is));
+  kept = kept;
   store_stays = same;
   platform_stays = λ is. refl;
   at_head = tt;
@@ -77,6 +78,7 @@ refused_call {D} outside crash_states counts changes was now_is p e settled isnt
   tells = refl;
   honest = refl;
   faults = omega arith;
+  unread = λ tells. refl;
   sealed = λ tells. sealed_none was.keys (outside p).trace;
 }
 
@@ -134,14 +136,15 @@ module _ {D : Type 0} (outside : D → Outside) (crash_states : D → CrashState
       (subst (λ (s : SegmentSpace). All (IsFreshIn s) ps) known.space next.laid.fresh) put.puts.in_order (put.puts.wrote.trace tells) (sym known.count) intact was.log.head.mark.0 ((from.count + 1, changes) ∷ []) (committed from changes space) prev some
       (next_step (outside old) was entries before behind changes prepared list not_full counts_on from known c ps space next values) based (at_count tells) (inl (at_head tells)) unforged (put.puts.anchor tells)
 
-  pub fault_call : (now_is : memory.Store) (x : Failed) → PutCommit outside crash_states secret was.log.head c ps old new (Err x) → IsCommitCall {T = Unit {0}} outside crash_states changes was now_is old new (Err Fault)
-  fault_call now_is x put = record {
+  pub fault_call : (now_is : memory.Store) (x : Failed) → PutCommit outside crash_states secret was.log.head c ps old new (Err x) → IsKept was now_is → IsCommitCall {T = Unit {0}} outside crash_states changes was now_is old new (Err Fault)
+  fault_call now_is x put kept = record {
     added = λ tells. added_err outside crash_states (Knows (outside old) was) (OneCommit store changes) store old new (Err x) (Err Fault) refl (added_by (Err x) put tells);
     knows = λ tells. tt;
     whole = keeps_by (Err x) put;
     refused = λ last known refusal. absurd (false≢true refusal);
     allowed = λ last known. tt;
     fault_allowed = λ is last known. (committed last changes space, allowed_on (outside old) was entries before behind changes prepared list not_full counts_on last known c ps space next values);
+    kept = kept;
     store_stays = λ refusal. absurd (false≢true refusal);
     platform_stays = λ isnt. absurd (isnt refl);
     at_head = tt;
@@ -152,6 +155,7 @@ module _ {D : Type 0} (outside : D → Outside) (crash_states : D → CrashState
     tells = put.told.tells;
     honest = put.told.honest;
     faults = put.told.no_fewer_faults;
+    unread = λ tells. unread_by (outside old).trace (outside new).trace put.puts.done (put.puts.wrote.trace tells);
     sealed = put.sealed;
   }
 
@@ -204,6 +208,7 @@ module _ {D : Type 0} (outside : D → Outside) (crash_states : D → CrashState
       refused = λ last known. tt;
       allowed = λ last known. (committed last changes space, allowed_on (outside old) was entries before behind changes prepared list not_full counts_on last known c ps space next values);
       fault_allowed = λ is. absurd (ok_is_no_err x is);
+      kept = tt;
       store_stays = tt;
       platform_stays = tt;
       at_head = λ tells. put.advanced (subst IsTrue put.told.tells tells) ∙ sym (ap (λ (h : Head). (h.count, h.mark.0)) head_next);
@@ -214,6 +219,7 @@ module _ {D : Type 0} (outside : D → Outside) (crash_states : D → CrashState
       tells = put.told.tells;
       honest = put.told.honest;
       faults = put.told.no_fewer_faults;
+      unread = λ tells. unread_by (outside old).trace (outside new).trace put.puts.done (put.puts.wrote.trace tells);
       sealed = put.sealed;
     }
 

@@ -44,7 +44,8 @@ use Rattle.tdb_chunk.specs.LaidOut.{IsOneOf, LaidOut, in_pieces}
 use Rattle.tdb_chunk.specs.Preparing.{IsNext, IsPrepared}
 use Rattle.tdb_chunk.specs.Text.{next_commit}
 use Rattle.tdb_chunk.specs.declared.store.Store as memory
-use Rattle.tdb_chunk.proofs.Logs.{Finer, changes_stay, in_later_trace, list_stays}
+use Rattle.tdb_overlay.proofs.LogLaws.{Finer, changes_stay, list_stays}
+use Rattle.tdb_chunk.proofs.Logs.{in_later_trace}
 
 one_of_last : (ps : List Placed) (p : Placed) → IsOneOf (ps ++ p ∷ []) p.place p.bytes
 one_of_last [] p = inl (refl, refl)

@@ -2,19 +2,20 @@
 use Rattle.std.proofs.Common.{◌≡◌, ◌⊎◌, inl, inr, ⊎_elim, ℕ, ◌+◌, ◌≤◌, ◌==◌, cond, List, [], ◌∷◌, ◌++◌, IsTrue, Option, Some, Result, length, replicate, refl, sym, ◌∙◌, ap, subst, arith, add-one, append-nil}
 use Rattle.std.specs.Prelude.{All, AllPairs}
 use Rattle.std.specs.List.{AllByRecursion}
+use Rattle.std.proofs.lemmas.Option.{same_Some}
 use Rattle.sha2.specs.Sha256.{sha256}
 use Rattle.tdb_append.specs.Placed.{FitsOneSegment, IsApart, Placed, with_all_written}
 use Rattle.tdb_append.specs.Put.{Puts, slot_place}
 use Rattle.tdb_append.specs.declared.head.Head.{Head}
 use Rattle.tdb_base.specs.declared.piece.Piece.{Piece}
-use Rattle.tdb_base.specs.Trace.{Extends, WrittenPiece}
+use Rattle.tdb_base.specs.Trace.{Extends}
 use Rattle.tdb_list.specs.declared.entry.Entry.{Entry}
 use Rattle.tdb_mark.specs.declared.commit.Commit.{Commit}
 use Rattle.tdb_mark.specs.CommitChain.{commit_chain}
 use Rattle.tdb_mark.specs.CommitFormat.{IsInFormat}
 use Rattle.tdb_mark.specs.CommitText.{commit_key_of, commit_of}
 use Rattle.tdb_mark.specs.Unforged.{IsUnforged}
-use Rattle.tdb_mark.proofs.ChainLemmas.{commit_chain-longer, commit_chain-stays}
+use Rattle.tdb_mark.proofs.ChainLemmas.{commit_chain-longer}
 use Rattle.tdb_model.specs.declared.change.Change.{Change}
 use Rattle.tdb_model.specs.declared.change.Change.TheVariants.{Write, Free, Make, Copy, Drop}
 use Rattle.tdb_model.specs.Apply.{History}
@@ -29,13 +30,15 @@ use Rattle.tdb_overlay.specs.Required.{IsNamedBy, RestsOn, base_of}
 use Rattle.tdb_overlay.specs.StoreState.{StoreState, first_state}
 use Rattle.tdb_overlay.proofs.Chains.{LogCounts, chain_in_format, log_counts}
 use Rattle.tdb_overlay.proofs.Lengths.{trace_sized}
+use Rattle.tdb_overlay.proofs.LogLaws.{Finer, list_stays}
+use Rattle.tdb_overlay.proofs.Needing.{base_of-last}
 use Rattle.tdb_overlay.proofs.Unmistaken.{text_length}
 use Rattle.tdb_chunk.specs.Formatting.{IsStart, plain_store}
 use Rattle.tdb_chunk.specs.LaidOut.{IsFreshIn, in_pieces}
 use Rattle.tdb_chunk.specs.Text.{anchor_of, text_in_slot, text_of}
-use Rattle.tdb_chunk.proofs.Logs.{Finer, follows_is, found_in_put, grows_all, in_later_trace, list_stays, text_in_put}
-use Rattle.tdb_chunk.proofs.PlacedLogs.{IsIn, TextAt, all_at, commit_pieces, one_list, text_at}
-use Rattle.tdb_chunk.proofs.Standing.{put_record, put_text, record_stands, text_stands}
+use Rattle.tdb_chunk.proofs.Logs.{chain_still, follows_is, found_in_put, grows_all, in_later_trace, text_in_put}
+use Rattle.tdb_chunk.proofs.PlacedLogs.{IsIn, TextAt, commit_pieces, one_list, text_at}
+use Rattle.tdb_chunk.proofs.Standing.{all_at, put_record, put_text, record_stands, text_stands}
 use Rattle.tdb_chunk.proofs.Starting.{first_steps, starts_first}
 
 -- the piece stands for some bytes
@@ -61,11 +64,6 @@ some_of : (earlier : List Commit) (text : Commit) (later : List Commit) → 1 �
 some_of [] text later = omega arith
 some_of (d ∷ earlier) text later = omega arith
 
-base_last : (chain : List Commit) (c : Commit) → base_of (chain ++ c ∷ []) ≡ c.base
-base_last [] c = refl
-base_last (d ∷ []) c = refl
-base_last (d ∷ e ∷ chain) c = base_last (e ∷ chain) c
-
 same_heads : (a b : Commit) (x y : List Commit) → a ∷ x ≡ b ∷ y → (a ≡ b) × (x ≡ y)
 same_heads a b x y e = (cc, cc)
 
@@ -82,9 +80,6 @@ last_or_front (d ∷ chain) c [] text later e = inr (chain, ap (λ (t : Commit).
 last_or_front (d ∷ chain) c (g ∷ earlier) text later e =
     let heads = same_heads d g (chain ++ c ∷ []) (earlier ++ text ∷ later) e in
     ⊎_elim (λ same. inl same) (λ front. inr (front.0, ap (λ (t : Commit). t ∷ chain) heads.0 ∙ ap (λ (l : List Commit). g ∷ l) front.1)) (last_or_front chain c earlier text later heads.1)
-
-same_chain : (x y : List Commit) → ◌≡◌ {A = Option (List Commit)} (Some x) (Some y) → x ≡ y
-same_chain x y e = cc
 
 -- Records in fresh places, and the next text, were written, or a front of them.
 module _ (store : Store) (old new : Outside) (n : ℕ) (ps done rest : List Placed) (c : Commit) (before : History) (from : StoreState) (is : IsLog old.trace.written store old.anchor before from)
@@ -112,8 +107,7 @@ module _ (store : Store) (old new : Outside) (n : ℕ) (ps done rest : List Plac
   formats = chain_in_format old.trace.written (commit_key_of store.secret) old.anchor.0 old.anchor.1 is.chain is.ends
 
   ends_still : (m : ℕ) (mark : List ℕ) → commit_chain old.trace.written grammar m mark ≡ Some is.chain → commit_chain new.trace.written grammar m mark ≡ Some is.chain
-  ends_still m mark ends =
-      subst (λ (ws : List WrittenPiece). commit_chain ws grammar m mark ≡ Some is.chain) (sym grows.written) (commit_chain-stays old.trace.written grows.more_written grammar m mark is.chain ends)
+  ends_still m mark ends = chain_still old.trace new.trace grammar m mark is.chain grows ends
 
   module _ (earlier : List Commit) (text : Commit) (later : List Commit) (split : is.chain ≡ earlier ++ text ∷ later) where
     at_text : TextAt told (trace_sized old.trace.written) store text from
@@ -157,7 +151,7 @@ module _ (store : Store) (old new : Outside) (n : ℕ) (ps done rest : List Plac
   -- The anchor is the old one.
   stays_intact : IsIntact new.trace.written store old.anchor
   stays_intact piece r =
-      let chain : r.chain ≡ is.chain = same_chain r.chain is.chain (sym r.ends ∙ ends_still old.anchor.0 old.anchor.1 is.ends) in
+      let chain : r.chain ≡ is.chain = same_Some r.chain is.chain (sym r.ends ∙ ends_still old.anchor.0 old.anchor.1 is.ends) in
       let split : is.chain ≡ r.earlier ++ r.text ∷ r.later = sym chain ∙ r.in_chain in
       still_stands r.earlier r.text r.later split (omega (arith, (counts r.earlier r.text r.later split).base, ap base_of chain, r.since_base)) piece r.rests
 
@@ -207,8 +201,8 @@ module _ (store : Store) (old new : Outside) (n : ℕ) (ps done rest : List Plac
 
       goes_intact : IsIntact new.trace.written store (anchor_of store.secret c)
       goes_intact piece r =
-          let chain : r.chain ≡ is.chain ++ c ∷ [] = same_chain r.chain (is.chain ++ c ∷ []) (sym r.ends ∙ ends_after) in
-          let since : from.base ≤ r.text.count = omega (arith, based, base_last is.chain c, ap base_of chain, r.since_base) in
+          let chain : r.chain ≡ is.chain ++ c ∷ [] = same_Some r.chain (is.chain ++ c ∷ []) (sym r.ends ∙ ends_after) in
+          let since : from.base ≤ r.text.count = omega (arith, based, base_of-last is.chain c, ap base_of chain, r.since_base) in
           ⊎_elim (λ last. new_stands piece (subst (λ (k : Commit). RestsOn (in_trace new.trace.written) store.secret k piece) last r.rests))
           (λ front. still_stands r.earlier r.text front.0 front.1 since piece r.rests)
           (last_or_front is.chain c r.earlier r.text r.later (sym chain ∙ r.in_chain))

@@ -1,120 +1,40 @@
 -- A log stays as more is written, and a put of records and the next text makes it longer.
-use Rattle.std.proofs.Common.{◌≡◌, ◌⊎◌, inl, inr, ◌+◌, ℕ, List, [], ◌∷◌, ◌++◌, Option, Some, Bool, true, cond, ◌&&◌, ◌==◌, replicate, refl, sym, ◌∙◌, ap, subst, append-nil, append_assoc, add-one}
+use Rattle.std.proofs.Common.{◌≡◌, ◌⊎◌, inl, inr, ◌+◌, ℕ, List, [], ◌∷◌, ◌++◌, Option, Some, Bool, true, cond, ◌&&◌, ◌==◌, replicate, refl, sym, ◌∙◌, ap, subst, append-nil, add-one}
 use Rattle.std.specs.Str.{bytes_eq}
 use Rattle.std.proofs.lemmas.Bool.Decides.{eqb_tells}
 use Rattle.std.proofs.lemmas.Slice.Eq.{bytes_eq-Decides}
 use Rattle.sha2.specs.Sha256.{sha256}
-use Rattle.tdb_base.specs.declared.piece.Piece.{Piece}
 use Rattle.tdb_base.specs.Trace.{Trace, WrittenPiece, Extends, with_written}
 use Rattle.tdb_base.proofs.Tracing.{extends_itself, extends_written, extends_along}
 use Rattle.tdb_append.specs.Placed.{Placed, with_all_written}
-use Rattle.tdb_list.specs.declared.entry.Entry.{Entry}
 use Rattle.tdb_mark.specs.declared.commit.Commit.{Commit}
 use Rattle.tdb_mark.specs.CommitChain.{commit_chain, follows}
 use Rattle.tdb_mark.specs.CommitText.{commit_key_of, commit_of}
 use Rattle.tdb_mark.specs.TextOfDigest.{text_of_digest}
 use Rattle.tdb_mark.specs.Unforged.{IsUnforged, WasWritten}
-use Rattle.tdb_mark.proofs.DigestLemmas.{text_of_digest-stays, text_of_digest_is, text_of_digest_found, WasWritten-last}
+use Rattle.tdb_mark.proofs.DigestLemmas.{text_of_digest_is, text_of_digest_found, WasWritten-last}
 use Rattle.tdb_mark.proofs.ChainLemmas.{commit_chain-stays, commit_chain-longer}
-use Rattle.tdb_model.specs.declared.change.Change.{Change}
-use Rattle.tdb_model.specs.declared.change.Change.TheVariants.{Write, Free, Make, Copy, Drop}
 use Rattle.tdb_model.specs.Apply.{History}
 use Rattle.tdb_platform.specs.Outside.{Anchor, Outside}
-use Rattle.tdb_overlay.specs.Changes.{AreChangesOf, HasChanges, HasTable, IsChangeOf}
-use Rattle.tdb_overlay.specs.Found.{Finds, Store, in_trace}
-use Rattle.tdb_overlay.specs.Log.{Adds, IsLog, IsLogOf, IsStep}
+use Rattle.tdb_overlay.specs.Found.{Store, in_trace}
+use Rattle.tdb_overlay.specs.Log.{IsLog, IsStep}
 use Rattle.tdb_overlay.specs.StoreState.{StoreState, first_state}
+use Rattle.tdb_overlay.proofs.LogLaws.{Finer, found_still, log_longer, log_of_stays, log_stays, step_stays}
 use Rattle.tdb_chunk.specs.LaidOut.{IsOneOf, in_pieces}
-
--- what one finding finds, another one finds too
-abbrev pub Finer : Finds → Finds → Type 0
-Finer f g = (piece : Piece) (bytes : List ℕ) → f piece bytes → g piece bytes
-
-module _ (f g : Finds) (finer : Finer f g) (secret : List ℕ) where
-  change_stays : (e : Entry) (change : Change) → IsChangeOf f secret e change → IsChangeOf g secret e change
-  change_stays e (Write part rank bytes) is =
-      let w = is.3 in
-      (is.0, is.1, is.2, record { suite = w.suite; numbered = w.numbered; sealed = w.sealed; found = finer e.piece w.sealed w.found; opened = w.opened })
-  change_stays e (Free part rank) is = is
-  change_stays e (Make part suite) is = is
-  change_stays e (Copy from to) is = is
-  change_stays e (Drop part) is = is
-
-  pub changes_stay : (entries : List Entry) (changes : List Change) → AreChangesOf f secret entries changes → AreChangesOf g secret entries changes
-  changes_stay [] [] are = tt
-  changes_stay (e ∷ entries) (change ∷ changes) are = (change_stays e change are.0, changes_stay entries changes are.1)
-  changes_stay [] (change ∷ changes) are = absurd are
-  changes_stay (e ∷ entries) [] are = absurd are
-
-  abbrev pub list_stays : (c : Commit) (changes : List Change) → HasChanges f secret c changes → HasChanges g secret c changes
-  list_stays c changes h = record {
-    sealed = h.sealed;
-    plain = h.plain;
-    entries = h.entries;
-    found = finer c.first h.sealed h.found;
-    opened = h.opened;
-    list = h.list;
-    each = changes_stay h.entries changes h.each;
-  }
-
-  abbrev pub table_stays : (c : Commit) → HasTable f secret c → HasTable g secret c
-  table_stays c h = record {
-    sealed = h.sealed;
-    table = h.table;
-    found = finer c.first h.sealed h.found;
-    opened = h.opened;
-    is_table = h.is_table;
-    value = h.value;
-    segments = h.segments;
-    used = h.used;
-  }
-
-module _ (f g : Finds) (finer : Finer f g) (store : Store) where
-  pub step_stays : (before : StoreState) (c : Commit) (added : History) (after : StoreState) → IsStep f store before c added after → IsStep g store before c added after
-  step_stays before c added after s = record { suite = s.suite; segments = s.segments; adds = adds s.adds }
-    where
-      adds : Adds f store before c added after → Adds g store before c added after
-      adds (inl checkpoint) =
-          let k = checkpoint.0 in
-          inl (record { kind = k.kind; next = k.next; root = k.root; none = k.none; table = table_stays f g finer store.secret c k.table; after_is = k.after_is }, checkpoint.1)
-      adds (inr commit) =
-          let k = commit.1 in
-          inr (
-            commit.0,
-            record { kind = k.kind; next = k.next; base = k.base; allowed = k.allowed; list = list_stays f g finer store.secret c commit.0 k.list; owned = k.owned; placed = k.placed },
-            commit.2,
-          )
-
-  pub chain_stays : (before : StoreState) (chain : List Commit) (history : History) (last : StoreState) → IsLogOf f store before chain history last → IsLogOf g store before chain history last
-  chain_stays before [] history last is = is
-  chain_stays before (c ∷ chain) history last is = (is.0, is.1, is.2, step_stays before c is.0 is.1 is.3, chain_stays is.1 chain is.2 last is.4, is.5)
-
-pub chain_longer : (f : Finds) (store : Store) (before : StoreState) (chain : List Commit) (c : Commit) (history added : History) (last to : StoreState) → IsLogOf f store before chain history last → IsStep f store last c added to
-    → IsLogOf f store before (chain ++ c ∷ []) (history ++ added) to
-chain_longer f store before [] c history added last to is step =
-    (added, to, [], subst (λ (s : StoreState). IsStep f store s c added to) is.1 step, (refl, refl), ap (λ (h : History). h ++ added) is.0 ∙ sym (append-nil added))
-chain_longer f store before (d ∷ chain) c history added last to is step =
-    (is.0, is.1, is.2 ++ added, is.3, chain_longer f store is.1 chain c is.2 added last to is.4 step, ap (λ (h : History). h ++ added) is.5 ∙ append_assoc is.0 is.2 added)
-
-in_longer_trace : (written more : List WrittenPiece) → Finer (in_trace written) (in_trace (written ++ more))
-in_longer_trace written more piece bytes found = (text_of_digest-stays written more piece.digest.0 bytes found.0, found.1)
 
 -- in a later trace a piece stands for the same bytes
 pub in_later_trace : (t u : Trace) → Extends t u → Finer (in_trace t.written) (in_trace u.written)
-in_later_trace t u grows = subst (λ (ws : List WrittenPiece). Finer (in_trace t.written) (in_trace ws)) (sym grows.written) (in_longer_trace t.written grows.more_written)
+in_later_trace t u grows = subst (λ (ws : List WrittenPiece). Finer (in_trace t.written) (in_trace ws)) (sym grows.written) (found_still t.written grows.more_written)
 
 -- so a chain stays
-chain_still : (t u : Trace) (grammar : List ℕ → Option Commit) (n : ℕ) (mark : List ℕ) (chain : List Commit) → Extends t u → commit_chain t.written grammar n mark ≡ Some chain → commit_chain u.written grammar n mark ≡ Some chain
+pub chain_still : (t u : Trace) (grammar : List ℕ → Option Commit) (n : ℕ) (mark : List ℕ) (chain : List Commit) → Extends t u → commit_chain t.written grammar n mark ≡ Some chain → commit_chain u.written grammar n mark ≡ Some chain
 chain_still t u grammar n mark chain grows ends =
     subst (λ (ws : List WrittenPiece). commit_chain ws grammar n mark ≡ Some chain) (sym grows.written) (commit_chain-stays t.written grows.more_written grammar n mark chain ends)
 
--- The log of an anchor stays as more is written.
-pub log_stays : (t u : Trace) (store : Store) (anchor : Anchor) (history : History) (last : StoreState) → Extends t u → IsLog t.written store anchor history last → IsLog u.written store anchor history last
-log_stays t u store anchor history last grows is = record {
-  chain = is.chain;
-  ends = chain_still t u (commit_of (commit_key_of store.secret)) anchor.0 anchor.1 is.chain grows is.ends;
-  tells = chain_stays (in_trace t.written) (in_trace u.written) (in_later_trace t u grows) store (first_state store) is.chain history last is.tells;
-}
+-- and the log of an anchor
+log_still : (t u : Trace) (store : Store) (anchor : Anchor) (history : History) (last : StoreState) → Extends t u → IsLog t.written store anchor history last → IsLog u.written store anchor history last
+log_still t u store anchor history last grows is =
+    subst (λ (ws : List WrittenPiece). IsLog ws store anchor history last) (sym grows.written) (log_stays t.written grows.more_written store anchor history last is)
 
 pub grows_all : (t : Trace) (ps : List Placed) → Extends t (with_all_written t ps)
 grows_all t [] = extends_itself t
@@ -125,6 +45,14 @@ grows_all t (p ∷ ps) =
 pub with_all_written-push : (t : Trace) (ps : List Placed) (p : Placed) → with_all_written t (ps ++ p ∷ []) ≡ with_written (with_all_written t ps) p.place p.bytes
 with_all_written-push t [] p = refl
 with_all_written-push t (q ∷ qs) p = with_all_written-push (with_written t q.place q.bytes) qs p
+
+reads_stay : (t : Trace) (ps : List Placed) → (with_all_written t ps).read ≡ t.read
+reads_stay t [] = refl
+reads_stay t (p ∷ ps) = reads_stay (with_written t p.place p.bytes) ps
+
+-- what only writes reads nothing
+pub unread_by : (t u : Trace) (ps : List Placed) → u ≡ with_all_written t ps → u.read ≡ t.read
+unread_by t u ps wrote = ap (λ (v : Trace). v.read) wrote ∙ reads_stay t ps
 
 was_written_more : (ws more : List WrittenPiece) (p : List ℕ) → WasWritten ws p → WasWritten (ws ++ more) p
 was_written_more [] more p h = absurd h
@@ -188,18 +116,18 @@ longer_chain store t u n mark slot ps c chain reads prev next wrote unforged end
     (commit_chain-longer u.written grammar n mark slot.bytes c chain (text_in_put grammar t u ps slot wrote unforged) reads prev next (chain_still t u grammar n mark chain all ends))
 
 -- So does it make the log longer by what the text adds.
-pub log_longer : (store : Store) (t u : Trace) (n : ℕ) (mark : List ℕ) (slot : Placed) (ps : List Placed) (c : Commit) (before added : History) (from to : StoreState)
+log_grown : (store : Store) (t u : Trace) (n : ℕ) (mark : List ℕ) (slot : Placed) (ps : List Placed) (c : Commit) (before added : History) (from to : StoreState)
     → commit_of (commit_key_of store.secret) slot.bytes ≡ Some c → c.prev.0 ≡ mark → follows n c ≡ true → IsStep (in_pieces ps) store from c added to
     → u ≡ with_all_written t (ps ++ slot ∷ []) → IsUnforged u (commit_of (commit_key_of store.secret))
     → IsLog t.written store (n, mark) before from → IsLog u.written store (n + 1, sha256 slot.bytes) (before ++ added) to
-log_longer store t u n mark slot ps c before added from to reads prev next step wrote unforged is =
+log_grown store t u n mark slot ps c before added from to reads prev next step wrote unforged is =
     let all : Extends t u = subst (Extends t) (sym wrote) (grows_all t (ps ++ slot ∷ [])) in
     let finer : Finer (in_pieces ps) (in_trace u.written) = found_in_put (commit_of (commit_key_of store.secret)) t u ps slot wrote unforged in
     record {
       chain = is.chain ++ c ∷ [];
       ends = longer_chain store t u n mark slot ps c is.chain reads prev next wrote unforged is.ends;
-      tells = chain_longer (in_trace u.written) store (first_state store) is.chain c before added from to
-          (chain_stays (in_trace t.written) (in_trace u.written) (in_later_trace t u all) store (first_state store) is.chain before from is.tells) (step_stays (in_pieces ps) (in_trace u.written) finer store from c added to step);
+      tells = log_longer (in_trace u.written) store (first_state store) is.chain c before added from to
+          (log_of_stays (in_trace t.written) (in_trace u.written) (in_later_trace t u all) store (first_state store) is.chain before from is.tells) (step_stays (in_pieces ps) (in_trace u.written) finer store from c added to step);
     }
 
 -- At count 0 the mark doesn't matter.
@@ -221,7 +149,7 @@ module _ (store : Store) (old new : Outside) (n : ℕ) (mark : List ℕ) (slot :
       let all : ps ++ slot ∷ [] ≡ done = in_order ∙ ap (λ (l : List Placed). done ++ l) complete ∙ append-nil done in
       let next : follows n c ≡ true = follows_is n c count (λ zero. prev ∙ start zero) in
       subst (λ (b : Anchor). IsLog new.trace.written store b (before ++ added) to) (sym advanced)
-      (log_longer store old.trace new.trace n mark slot ps c before added from to reads prev next step (wrote ∙ ap (with_all_written old.trace) (sym all)) unforged
+      (log_grown store old.trace new.trace n mark slot ps c before added from to reads prev next step (wrote ∙ ap (with_all_written old.trace) (sym all)) unforged
       (head_log old.trace.written store old.anchor n mark before from at_count at is))
 
   pub put_grows : new.trace ≡ with_all_written old.trace done → Extends old.trace new.trace
@@ -232,4 +160,4 @@ module _ (store : Store) (old new : Outside) (n : ℕ) (mark : List ℕ) (slot :
       → IsLog old.trace.written store old.anchor before from → IsLog new.trace.written store a (before ++ []) from
   put_stays before from a wrote same is =
       subst (λ (b : Anchor). IsLog new.trace.written store b (before ++ []) from) (sym same)
-      (subst (λ (h : History). IsLog new.trace.written store old.anchor h from) (sym (append-nil before)) (log_stays old.trace new.trace store old.anchor before from (put_grows wrote) is))
+      (subst (λ (h : History). IsLog new.trace.written store old.anchor h from) (sym (append-nil before)) (log_still old.trace new.trace store old.anchor before from (put_grows wrote) is))

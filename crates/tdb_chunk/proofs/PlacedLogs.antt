@@ -1,6 +1,7 @@
 -- What the texts of a log since its last checkpoint name is placed in its segments.
 use Rattle.std.proofs.Common.{◌≡◌, ◌⊎◌, inl, inr, ⊎_elim, ℕ, ◌+◌, ◌-◌, ◌/◌, ◌≤◌, List, [], ◌∷◌, ◌++◌, map, Some, Ok, IsTrue, sym, ◌∙◌, ap, subst, arith}
 use Rattle.std.proofs.lemmas.Bool.{eq-eqb}
+use Rattle.std.proofs.lemmas.Option.{same_Some}
 use Rattle.std.specs.List.{AllByRecursion}
 use Rattle.std.specs.FinSet.{contains}
 use Rattle.tdb_base.specs.declared.piece.Piece.{Piece}
@@ -31,6 +32,7 @@ use Rattle.tdb_overlay.proofs.Lengths.{IsSized}
 use Rattle.tdb_overlay.proofs.LogLaws.{allows}
 use Rattle.tdb_overlay.proofs.Placings.{HasLength, first_placed, nothing_placed}
 use Rattle.tdb_overlay.proofs.Steps.{commit_space, piece_lengths, placed, sizes}
+use Rattle.tdb_chunk.proofs.Standing.{all_at, all_front, all_weaker}
 use Rattle.tdb_chunk.proofs.Starting.{fresh_valid}
 
 -- the bytes of the piece were placed in the space
@@ -53,21 +55,6 @@ placed_as space (piece ∷ pieces) keep after valid lengths is =
       (rest.0 piece.place.0 piece.length (now-placed space piece.place piece.length one.fresh), rest.1),
     )
 
-all_last : (P : Piece → Type 0) (pieces : List Piece) (piece : Piece) → AllByRecursion P (pieces ++ piece ∷ []) → P piece
-all_last P [] piece all = all.0
-all_last P (p ∷ pieces) piece all = all_last P pieces piece all.1
-
-all_front : (P : Piece → Type 0) (pieces more : List Piece) → AllByRecursion P (pieces ++ more) → AllByRecursion P pieces
-all_front P [] more all = tt
-all_front P (p ∷ pieces) more all = (all.0, all_front P pieces more all.1)
-
-pub all_at : (P : Piece → Type 0) (before : List Piece) (piece : Piece) (after : List Piece) → AllByRecursion P (before ++ piece ∷ after) → P piece
-all_at P [] piece after all = all.0
-all_at P (p ∷ before) piece after all = all_at P before piece after all.1
-
-the_tail : (p tail : Place) → Some p ≡ Some tail → p.0 ≡ tail.0
-the_tail p tail e = let same : p ≡ tail = cc in ap (λ (q : Place). q.0) same
-
 -- The table of a checkpoint is placed in the segments that it tells.
 table_placed : (f : Finds) (secret : List ℕ) (c : Commit) → IsInFormat c → (has : HasTable f secret c) → IsSegmentSpace (table_space has.table (end_of c.first)) × IsIn (table_space has.table (end_of c.first)) c.first
 table_placed f secret c format has =
@@ -82,7 +69,7 @@ table_placed f secret c format has =
       value = has.value;
       tail = (k, used, record { after_start = omega (arith, lies.some, lies.begins); within = omega (arith, lies.ends) });
     } in
-    (kept-space inside kept, record { k = k; used = used; lies = lies; before = λ tail is ends. omega (arith, the_tail (end_of c.first) tail is) })
+    (kept-space inside kept, record { k = k; used = used; lies = lies; before = λ tail is ends. omega (arith, ap (λ (q : Place). q.0) (same_Some (end_of c.first) tail is)) })
 
 -- what a text makes of the counts and of what is placed
 pub record StepPlaced (before : StoreState) (c : Commit) (after : StoreState) : Type 0 where
@@ -123,7 +110,7 @@ module _ (f : Finds) (sized : IsSized f) (store : Store) where
         next = count;
         count = count ∙ sym is.next;
         stays = inl (ap (λ (s : StoreState). s.base) allowed.after_is, all.0);
-        first = all_last (IsIn after.space) (named_records is.list.entries) c.first all.1;
+        first = all_at (IsIn after.space) (named_records is.list.entries) c.first [] all.1;
       }
 
   -- what the texts of a log make of them
@@ -195,8 +182,7 @@ module _ (f : Finds) (sized : IsSized f) (store : Store) where
   commit_pieces c last at kind = by at.step.adds
     where
       weaker : Stay at.after.space last.space → (pieces : List Piece) → AllByRecursion (IsIn at.after.space) pieces → AllByRecursion (IsIn last.space) pieces
-      weaker stays [] all = tt
-      weaker stays (p ∷ pieces) all = (stays p.place.0 p.length all.0, weaker stays pieces all.1)
+      weaker stays pieces all = all_weaker (IsIn at.after.space) (IsIn last.space) pieces (λ p in_it. stays p.place.0 p.length in_it) all
 
       by : Adds f store at.before c at.added at.after → (changes : List Change) × (has : HasChanges f store.secret c changes) × (last.base ≤ c.count → AllByRecursion (IsIn last.space) (named_records has.entries))
       by (inl checkpoint) = absurd (omega (arith, kind, checkpoint.0.kind))

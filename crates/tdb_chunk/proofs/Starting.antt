@@ -1,6 +1,7 @@
 -- The start of a log: where its table is placed, and what its text adds.
-use Rattle.std.proofs.Common.{◌≡◌, ℕ, zero, suc, ◌+◌, ◌-◌, ◌/◌, ◌≤◌, Bool, true, not, List, [], ◌∷◌, length, Option, Some, None, Ok, Result, IsTrue, ◌++◌, replicate, inl, inr, refl, sym, ap, subst, ◌∙◌, arith}
+use Rattle.std.proofs.Common.{◌≡◌, ℕ, zero, suc, ◌+◌, ◌-◌, ◌/◌, ◌≤◌, Bool, true, not, List, [], ◌∷◌, length, Some, Ok, Result, IsTrue, ◌++◌, replicate, inl, inr, refl, sym, ap, subst, ◌∙◌, arith}
 use Rattle.std.proofs.lemmas.Bool.{false≢true, cond-true, eqb-true, eq-eqb, or_left}
+use Rattle.std.proofs.lemmas.Option.{same_Some}
 use Rattle.std.specs.List.{filter, range_with_len}
 use Rattle.std.specs.Cmp.{nat_cmp_total, unsigned_tied}
 use Rattle.std.specs.Ordering.{nat_cmp, eq_by_cmp}
@@ -28,10 +29,7 @@ use Rattle.tdb_seg.specs.SegmentSpace.{SegmentSpace, IsSegmentSpace, at_free_seg
 use Rattle.tdb_seg.specs.TableSpace.{table_space, used_in}
 use Rattle.tdb_seg.specs.InsideLaws.{contains-used_in}
 use Rattle.tdb_seg.proofs.Placing.{at_free-some, next-past, place-placed}
-use Rattle.std.specs.FinMap as map
-use Rattle.tdb_model.specs.State.{Partition}
-use Rattle.tdb_overlay.specs.Covering.{Covered, IsCoveredAt, IsCovering, no_covers}
-use Rattle.tdb_overlay.specs.Found.{Finds, Store}
+use Rattle.tdb_overlay.specs.Found.{Store}
 use Rattle.tdb_overlay.specs.Keys.{system_key}
 use Rattle.tdb_overlay.specs.Log.{IsCheckpointOn, IsLog, IsLogOf, IsStep, end_of}
 use Rattle.tdb_overlay.specs.Found.{in_trace}
@@ -123,14 +121,11 @@ module _ (secret : List ℕ) (head : Head) (segments : ℕ) (first : Piece) (tab
     is_first = at.1;
   }
 
-no_chain : (chain : List Commit) → ◌≡◌ {A = Option (List Commit)} (Some []) (Some chain) → [] ≡ chain
-no_chain chain e = cc
-
 -- an anchor of count 0 has no text
 pub starts_first : (o : Outside) (store : Store) (before : History) (from : StoreState) → o.anchor.0 ≡ 0 → IsLog o.trace.written store o.anchor before from → from ≡ first_state store
 starts_first o store before from start is =
     let ends = subst (λ (n : ℕ). commit_chain o.trace.written (commit_of (commit_key_of store.secret)) n o.anchor.1 ≡ Some is.chain) start is.ends in
-    let none = subst (λ (chain : List Commit). IsLogOf (in_trace o.trace.written) store (first_state store) chain before from) (sym (no_chain is.chain ends)) is.tells in
+    let none = subst (λ (chain : List Commit). IsLogOf (in_trace o.trace.written) store (first_state store) chain before from) (sym (same_Some [] is.chain ends)) is.tells in
     none.1
 
 -- the first text is a checkpoint on no text
@@ -171,9 +166,3 @@ format_added outside crash_states counts secret head segments c ps space old new
     put_added outside crash_states counts (λ _. Unit {0}) (Formatted (plain_store secret segments)) (plain_store secret segments) old new 0 (replicate 32 0) (text_in_slot secret c) ps c reads
     (omega (arith, ap (λ (k : Commit). k.count) s.commit, zero_count)) (ap (λ (k : Commit). k.prev.0) s.commit ∙ zeros) (λ zero. refl) (first_steps (outside old) secret head segments c ps space s zero_count start) tells start (inr refl) settled
     result puts advanced only
-
--- where nothing is told, there is no partition
-pub nothing_covered : (finds : Finds) (secret : List ℕ) → IsCovering finds secret no_covers no_partitions
-nothing_covered finds secret part =
-    subst (λ (o : Option Covered). IsCoveredAt finds secret o (map.get no_partitions part)) (sym (map.get-empty {X = Covered} nat_cmp part))
-    (subst (λ (o : Option Partition). IsCoveredAt finds secret None o) (sym (map.get-empty {X = Partition} nat_cmp part)) tt)

@@ -47,8 +47,8 @@ use Rattle.tdb_chunk.specs.Writing.{AreLaid, HasNeither, IsEntryOf, IsInLimits, 
 use Rattle.tdb_chunk.specs.declared.chunk.Chunk.{Chunk}
 use Rattle.tdb_chunk.specs.declared.store.Store as memory
 use Rattle.tdb_chunk.proofs.Committing.{few_pass, last_found, more_found, no_room}
-use Rattle.tdb_chunk.proofs.Logs.{changes_stay}
 use Rattle.tdb_overlay.proofs.Lengths.{as_many}
+use Rattle.tdb_overlay.proofs.LogLaws.{changes_stay}
 use Rattle.tdb_model.specs.declared.error.CommitError.TheVariants.{NoRoom}
 
 -- one entry more, with its change

@@ -61,6 +61,10 @@ pub record IsLonger (old new : Outside) (was now : memory.Store) (changes : List
   pub log : IsLog new.trace.written (store_of was) new.anchor (before ++ (from.count + 1, changes) ∷ []) to
   pub knows : Knows new now to
 
+-- the keys, the head and the segments are as they were
+abbrev pub IsKept : memory.Store → memory.Store → Type 0
+IsKept was now = (now.keys ≡ was.keys) × (now.log.head ≡ was.log.head) × (now.log.segments ≡ was.log.segments)
+
 -- Of a commit of changes: what it adds to the log, what the store knows afterwards, and what each refusal means.
 pub record IsCommitCall {D T : Type 0} (outside : D → Outside) (crash_states : D → CrashStates) (changes : List Change) (was now_is : memory.Store) (old new : D) (result : Result T CommitError) : Type 0 where
   -- it adds one commit of these changes to the log that the store knows
@@ -75,6 +79,8 @@ pub record IsCommitCall {D T : Type 0} (outside : D → Outside) (crash_states :
   pub refused : (last : StoreState) → Knows (outside old) was last → IfErr result (λ e. IsTrue (is_refusal e) → commit_on (store_of was) last changes ≡ Err e)
   pub allowed : (last : StoreState) → Knows (outside old) was last → OnOk result (IsAllowedOn (store_of was) last changes)
   pub fault_allowed : result ≡ Err Fault → (last : StoreState) → Knows (outside old) was last → IsAllowedOn (store_of was) last changes
+  -- what failed leaves the keys, the head and the segments; what was refused leaves all
+  pub kept : IfErr result (λ e. IsKept was now_is)
   pub store_stays : IfErr result (λ e. IsTrue (is_refusal e) → now_is ≡ was)
   pub platform_stays : IfErr result (λ e. e ≢ Fault → new ≡ old)
   pub at_head : OnOk result (IsAtHead (outside new) now_is)
@@ -85,5 +91,7 @@ pub record IsCommitCall {D T : Type 0} (outside : D → Outside) (crash_states :
   pub tells : (outside new).tells ≡ (outside old).tells
   pub honest : (outside new).honest ≡ (outside old).honest
   pub faults : (outside old).faults ≤ (outside new).faults
+  -- nothing is read from the device
+  pub unread : IsTrue (outside old).tells → (outside new).trace.read ≡ (outside old).trace.read
   -- only sealed records and texts go to the device
   pub sealed : OnlySealed was.keys (outside old) (outside new)

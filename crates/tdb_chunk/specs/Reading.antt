@@ -3,6 +3,7 @@ use Rattle.std.specs.Prelude.{◌≡◌, ℕ, List, Some, IsTrue}
 use Rattle.std.specs.FinMap.{get}
 use Rattle.tdb_base.specs.declared.piece.Damage.{Damage}
 use Rattle.tdb_base.specs.declared.piece.Piece.{Piece}
+use Rattle.tdb_base.specs.Trace.{with_read}
 use Rattle.tdb_model.specs.declared.error.ReadError.{ReadError}
 use Rattle.tdb_model.specs.declared.error.ReadError.TheVariants.{Stopped, NoPartition, NoChunk, Tampered, Form, Fault, Memory}
 use Rattle.tdb_model.specs.State.{Partition}
@@ -41,6 +42,13 @@ pub record IsDamagedChunk (old new : Outside) (s : memory.Store) (last : StoreSt
   pub is_record : IsRecordOfChunk (in_trace old.trace.written) s.keys partition rank piece chunk
   pub read : HasRead old new
   pub shown : IsDamaged read.more piece damage.found.0
+
+-- A piece that the log of the anchor needs was read, once and whole, and nothing else was.
+pub record HasReadPiece (old new : Outside) (s : memory.Store) : Type 0 where
+  pub piece : Piece
+  pub required : IsRequired old.trace.written (store_of s) old.anchor piece
+  pub bytes : List ℕ
+  pub read : new.trace ≡ with_read old.trace piece.place.0 piece.length bytes
 
 -- an answer to a read whose chunk is there
 abbrev pub IsLate : ReadError → Type 0

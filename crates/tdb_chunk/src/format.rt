@@ -127,6 +127,8 @@ impl Store {
         ensures knows { IfOk result (λ store. Knows (P.outside platform.new) store (formatted_state (plain_store keys segments))) }
         // no piece that the log needs was written over
         ensures whole { StaysIntact (plain_store keys segments) (P.outside platform.old) (P.outside platform.new) }
+        // nothing is read from the device
+        ensures unread { IsTrue (P.outside platform.old).tells → (P.outside platform.new).trace.read ≡ (P.outside platform.old).trace.read }
         // only sealed records and texts go to the device
         ensures sealed { OnlySealed keys (P.outside platform.old) (P.outside platform.new) }
         ensures memory { result ≡ Err Memory → platform.new ≡ platform.old }

@@ -1,7 +1,8 @@
 //! Reading chunks.
-ghost use Rattle.std.specs.Prelude.{◌≡◌, ◌≢◌, ◌↔◌, ℕ, List, Err, IfErr, IfOk, IsTrue, None, Some};
+ghost use Rattle.std.specs.Prelude.{◌≡◌, ◌≢◌, ◌↔◌, ◌⊎◌, ℕ, List, Err, IfErr, IfOk, IsTrue, None, Some};
 ghost use Rattle.std.specs.FinMap as map;
 ghost use Rattle.tdb_base.specs.Rose.{Rose};
+ghost use Rattle.tdb_base.specs.Trace.{with_read};
 ghost use Rattle.tdb_base.specs.declared.piece.Damage.{Damage};
 ghost use Rattle.tdb_base.specs.declared.piece.Place.{Place};
 ghost use Rattle.tdb_mark.specs.CommitText.{commit_key_of, commit_of};
@@ -15,7 +16,7 @@ ghost use Rattle.tdb_overlay.specs.Keys.{partition_key};
 ghost use Rattle.tdb_overlay.specs.Reading.{OnlyReads};
 ghost use Rattle.tdb_overlay.specs.StoreState.{StoreState};
 ghost use Rattle.tdb_chunk.specs.Known.{Knows};
-ghost use Rattle.tdb_chunk.specs.Reading.{IsDamageOf, IsDamagedChunk, IsLate, name_of};
+ghost use Rattle.tdb_chunk.specs.Reading.{HasReadPiece, IsDamageOf, IsDamagedChunk, IsLate, name_of};
 
 use crate::store::Store;
 use std::alloc::Global;
@@ -43,6 +44,10 @@ impl Store {
             → (result ≡ Err answers.NoChunk) ↔ ((map.get last.chunks part.0 ≢ None) × (chunk_at last.chunks part.0 rank.0 ≡ None)) }
         ensures chunk { IsTrue (P.outside platform.old).tells → IsUnforged (P.outside platform.new).trace (commit_of (commit_key_of self.now.keys)) → (last : StoreState) → Knows (P.outside platform.old) self.now last
             → IfOk result (λ bytes. chunk_at last.chunks part.0 rank.0 ≡ Some bytes.items) }
+        // it takes one read, and none where there is no chunk
+        ensures once { IsTrue (P.outside platform.old).tells → (last : StoreState) → Knows (P.outside platform.old) self.now last
+            → IfOk result (λ bytes. HasReadPiece (P.outside platform.old) (P.outside platform.new) self.now) }
+        ensures unread { (result ≡ Err answers.NoPartition) ⊎ (result ≡ Err answers.NoChunk) → platform.new ≡ platform.old }
         // what has its digest is a record
         ensures form { IsTrue (P.outside platform.old).tells → IsUnforged (P.outside platform.new).trace (commit_of (commit_key_of self.now.keys)) → (last : StoreState) → Knows (P.outside platform.old) self.now last
             → (place : Place) → result ≢ Err (answers.Form place) }
@@ -78,6 +83,8 @@ impl Store {
             → IsSealedRecord (partition_key self.now.keys leader.now.home leader.now.birth) (name_of leader.now rank.0) plain sealed → (place : Place) → result ≢ Err (answers.Form place) }
         ensures tampered { (damage : Damage) → result ≡ Err (answers.Tampered damage) → IsDamageOf piece.now (P.outside platform.old) (P.outside platform.new) damage }
         ensures fault { result ≡ Err answers.Fault → Rose (P.outside platform.old).faults (P.outside platform.new).faults }
+        ensures once { IsTrue (P.outside platform.old).tells
+            → IfOk result (λ bytes. (sealed : List ℕ) × ((P.outside platform.new).trace ≡ with_read (P.outside platform.old).trace piece.now.place.0 piece.now.length sealed)) }
         ensures late { IfErr result IsLate }
     {
         let bytes = match fetch(alloc, platform, piece) {

@@ -31,9 +31,7 @@ fn the_first_path_has_the_marks_of_the_model(rt: HostRuntime) -> Result<(), Fail
     let alloc = rt.alloc();
     let mut platform = device(alloc, &[])?;
     let (count, _) = platform.anchor()?;
-    if count != 0 {
-        return Ok(());
-    }
+    assert_eq!(rt; count, 0);
     let mut store = Store::format(alloc, &mut platform, Keys::new(&[0; 32]), 16)?;
     assert_eq!(rt; platform.anchor()?.1.as_slice(), MARKS[0]);
     assert!(rt; store.may_make());
@@ -54,5 +52,29 @@ fn the_first_path_has_the_marks_of_the_model(rt: HostRuntime) -> Result<(), Fail
     assert_eq!(rt; store.segments(), 16);
     let read = store.read(alloc, &mut platform, FIRST, Rank(1))?;
     assert_eq!(rt; read.as_slice(), NOTE);
+    Ok(())
+}
+
+// Memory isn't wanting where there is enough of it, at the largest chunk of the last rank too.
+#[test]
+fn a_largest_chunk_is_written_and_read(rt: HostRuntime) -> Result<(), Fail> {
+    let alloc = rt.alloc();
+    let mut platform = device(alloc, &[])?;
+    let (count, _) = platform.anchor()?;
+    assert_eq!(rt; count, 0);
+    let mut store = Store::format(alloc, &mut platform, Keys::new(&[0; 32]), 4_096)?;
+    assert!(rt; store.may_make());
+    store.make_partitions(alloc, &mut platform)?;
+    let largest = Chunk {
+        rank: Rank(262_143),
+        bytes: Bytes::from(vec![in alloc; 7u8; 65_536]?),
+    };
+    store.commit_writes(alloc, &mut platform, FIRST, &[largest])?;
+    assert_eq!(rt; store.count(), 3);
+    let read = store.read(alloc, &mut platform, FIRST, Rank(262_143))?;
+    assert_eq!(rt; read.len(), 65_536);
+    for byte in &read {
+        assert_eq!(rt; *byte, 7);
+    }
     Ok(())
 }

@@ -63,6 +63,7 @@ returns-in-Err-lay_writes-clause-commit g c =
     if_no_room (store_of was) last changes c.in-Err-lay_writes.error c.refused.result c.refused.ensures.answer refusal
     (λ r is.
     writes_refused o was c.args.part c.args.chunks.now w c.requires.limits c.requires.some r ok.1 ok.2 ok.0 (c.in-Err-lay_writes.ensures.refused r (ap (λ (e : LayError). Err e) is)) last known))
+    (refl, refl, refl)
 
 pub returns-in-Err-clause-commit : goal.returns-in-Err-clause-commit
 returns-in-Err-clause-commit g c =
@@ -73,3 +74,4 @@ returns-in-Err-clause-commit g c =
     (λ last known refusal.
     c.in-Err.ensures.refused (store_of was) last changes (length-map c.args.chunks.now (write_of c.args.part)) (sym known.count) (sym known.base)
     (writes_check o was c.args.part c.args.chunks.now c.requires.writable c.requires.limits c.requires.some last known))
+    (refl, refl, refl)

@@ -10,11 +10,13 @@ use Rattle.tdb_overlay.specs.Covering.{Covers, IsCovering}
 use Rattle.tdb_overlay.specs.Found.{Finds}
 use Rattle.tdb_overlay.specs.Needed.{needed}
 use Rattle.tdb_overlay.specs.SealedOnly.{IsRecord}
+use Rattle.tdb_overlay.proofs.Coverings.{covering_none}
 use Rattle.tdb_chunk.specs.Formatting.{Formatted, plain_store}
 use Rattle.tdb_chunk.specs.Text.{anchor_of, text_in_slot}
 use Rattle.tdb_chunk.proofs.Keeping.{format_keeps}
 use Rattle.tdb_chunk.proofs.Growing.{added_always, added_err, added_ok, none_added}
-use Rattle.tdb_chunk.proofs.Starting.{format_added, nothing_covered}
+use Rattle.tdb_chunk.proofs.Logs.{unread_by}
+use Rattle.tdb_chunk.proofs.Starting.{format_added}
 use Rattle.tdb_chunk.proofs.store.Store.format.Goals as goal
 
 pub put_commit-requires-clause-in_segments : goal.put_commit-requires-clause-in_segments
@@ -62,6 +64,12 @@ pub returns-clause-sealed : goal.returns-clause-sealed
 returns-clause-sealed g c =
     c.put_commit.ensures.sealed (subst (λ (l : List Laid). All (λ (p : Placed). IsRecord c.args.keys p.bytes) (placed l)) (sym c.deref.ensures.value) c.in_ok-commit.ensures.start.laid.sealed)
 
+pub returns-in_default-clause-unread : goal.returns-in_default-clause-unread
+returns-in_default-clause-unread g c tells = unread_by _ _ c.put_commit.ensures.puts.done (c.put_commit.ensures.puts.wrote.trace tells)
+
+pub returns-clause-unread : goal.returns-clause-unread
+returns-clause-unread g c tells = unread_by _ _ c.put_commit.ensures.puts.done (c.put_commit.ensures.puts.wrote.trace tells)
+
 pub returns-clause-knows : goal.returns-clause-knows
 returns-clause-knows g c =
     let o = g.P.Platform.outside c.put_commit.new.platform in
@@ -73,7 +81,7 @@ returns-clause-knows g c =
       count = omega (arith, ap (λ (h : Head). h.count) head, ap (λ (k : Commit). k.count) start.commit, c.no_head-head.ensures.count);
       base = ap (λ (h : Head). h.base) head ∙ c.no_head-head.ensures.base;
       space = start.is_first;
-      chunks = subst (λ (covers : Covers). IsCovering finds secret covers no_partitions) (sym c.new.ensures) (nothing_covered finds secret);
+      chunks = subst (λ (covers : Covers). IsCovering finds secret covers no_partitions) (sym c.new.ensures) (covering_none finds secret);
     }
 
 pub returns-in_default-clause-whole : goal.returns-in_default-clause-whole

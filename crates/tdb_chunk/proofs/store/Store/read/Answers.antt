@@ -1,6 +1,8 @@
-use Rattle.std.proofs.Common.{ℕ, List, Some, refl, sym, ◌∙◌, ap}
+use Rattle.std.proofs.Common.{ℕ, List, Some, ⊎_elim, refl, sym, ◌∙◌, ap, subst}
+use Rattle.std.specs.Prelude.{IfErr}
 use Rattle.std.proofs.lemmas.Result.{IfOk-weaker}
 use Rattle.tdb_overlay.proofs.ReadingLaws.{reads_nothing}
+use Rattle.tdb_chunk.specs.Reading.{IsLate}
 use Rattle.tdb_chunk.proofs.Shown.{damaged_chunk, known_chunk, known_lack}
 use Rattle.tdb_chunk.proofs.store.Store.read.Goals as goal
 
@@ -20,6 +22,16 @@ returns-clause-chunk g c tells unforged last known =
     let o = g.P.Platform.outside c.args.platform.now in
     let k = known_chunk o c.args.self.now last known c.args.part.0 c.args.rank.0 c.in-Some.leader c.in-Some.ensures c.in-Here.piece c.in-Here.ensures in
     IfOk-weaker c.read_chunk.result _ _ (λ bytes same. k.is_there ∙ ap (λ (l : List ℕ). Some l) (sym same)) (c.read_chunk.ensures.bytes tells unforged k.sealed k.bytes k.found.0 k.opened)
+
+pub returns-clause-once : goal.returns-clause-once
+returns-clause-once g c tells last known =
+    let o = g.P.Platform.outside c.args.platform.now in
+    let k = known_chunk o c.args.self.now last known c.args.part.0 c.args.rank.0 c.in-Some.leader c.in-Some.ensures c.in-Here.piece c.in-Here.ensures in
+    IfOk-weaker c.read_chunk.result _ _ (λ bytes one. record { piece = c.in-Here.piece; required = k.found.1; bytes = one.0; read = one.1 }) (c.read_chunk.ensures.once tells)
+
+pub returns-clause-unread : goal.returns-clause-unread
+returns-clause-unread g c = λ lacks.
+    absurd (⊎_elim (λ is. subst (λ r. IfErr r IsLate) is c.read_chunk.ensures.late) (λ is. subst (λ r. IfErr r IsLate) is c.read_chunk.ensures.late) lacks)
 
 pub returns-clause-tampered : goal.returns-clause-tampered
 returns-clause-tampered g c damage is tells last known =

@@ -31,6 +31,9 @@ returns-in-Ok-read_record-clause-bytes g c tells unforged sealed plain found ope
     opened_is (partition_key secret c.args.leader.now.home c.args.leader.now.birth) c.args.leader.now c.args.rank.0 plain c.in-Ok-read_record.plain.items c.deref.result.now sealed (c.deref.ensures.value ∙ same) opened
     (subst (λ (key : List ℕ). IsSealedRecord key (name_of c.args.leader.now c.args.rank.0) c.in-Ok-read_record.plain.items c.deref.result.now) c.partition-key.ensures c.in-Ok-read_record.ensures.found)
 
+pub returns-in-Ok-read_record-clause-once : goal.returns-in-Ok-read_record-clause-once
+returns-in-Ok-read_record-clause-once g c tells = (c.in-Ok.bytes.items, c.in-Ok.ensures.read tells)
+
 pub returns-in-Err-Form-clause-form : goal.returns-in-Err-Form-clause-form
 returns-in-Err-Form-clause-form g c tells unforged sealed plain found opened place is =
     let o = g.P.Platform.outside c.args.platform.now in
