@@ -1,4 +1,4 @@
--- What the headline takes for granted of SHA-256 and of the tags.
+-- What is taken for granted of SHA-256 and of the tags: no collision, and no forgery.
 use Rattle.std.specs.Prelude.{◌≡◌, ◌⊎◌, ℕ, ◌*◌, ◌<◌, List, [], ◌∷◌, Option, IsSome}
 use Rattle.sha2.specs.Sha256.{sha256}
 use Rattle.tdb_base.specs.Trace.{WrittenPiece, ReadPiece, Trace}

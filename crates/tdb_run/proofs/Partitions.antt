@@ -1,5 +1,5 @@
 -- Each commit of a run leaves partitions 1 and 2 as a run makes them.
-use Rattle.std.proofs.Common.{◌≡◌, ◌⊎◌, inl, inr, ⊎_elim, ◌==◌, ℕ, Bool, true, false, List, [], ◌∷◌, ◌++◌, Option, Some, None, Result, Ok, Err, refl, sym, ◌∙◌, ap, subst, if◌then◌else◌}
+use Rattle.std.proofs.Common.{◌≡◌, ◌⊎◌, inl, inr, ⊎_elim, ◌==◌, ℕ, Bool, true, false, List, [], ◌∷◌, ◌++◌, Option, Some, None, Result, Ok, Err, refl, sym, ◌∙◌, subst, if◌then◌else◌}
 use Rattle.std.specs.FinMap.{get, insert}
 use Rattle.std.specs.Prelude.{nat_le}
 use Rattle.std.specs.Option.{option_map}
@@ -19,8 +19,8 @@ use Rattle.tdb_overlay.proofs.LogLaws.{log_state}
 use Rattle.tdb_script.specs.LineSpelling.{LineValue, begin, new_note, get as get_line, abort, commit as commit_line, quit}
 use Rattle.tdb_script.specs.NoteText.{stored_note_bytes}
 use Rattle.tdb_script.specs.declared.reply.Reply.{Reply}
-use Rattle.tdb_run.specs.Begin.{HasBoth, HasNone, HasUserPartitions, IsMadePlain, IsNewStore, IsReopened, Opens}
-use Rattle.tdb_run.specs.Script.{Answer, Answers, IsAnswer, IsGetAnswer, ScriptState, Transaction, abort_answer, begin_answer, changes_of, commit_answer, in_transaction, new_answer, replied, tried, write_of}
+use Rattle.tdb_run.specs.Begin.{HasBoth, HasUserPartitions, IsMadePlain, IsNewStore, IsReopened, Opens}
+use Rattle.tdb_run.specs.Script.{Answer, IsAnswer, IsGetAnswer, ScriptState, Transaction, abort_answer, begin_answer, changes_of, commit_answer, in_transaction, new_answer, tried, write_of}
 use Rattle.tdb_run.specs.Served.{IsOfNext}
 use Rattle.tdb_run.specs.Session.{AnswersBetween, Session, added_by}
 

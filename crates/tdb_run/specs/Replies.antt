@@ -1,4 +1,4 @@
--- What a run has taken, answered and put.
+-- What a run has taken from its source, and what it has answered.
 use Rattle.std.specs.Prelude.{◌≡◌, ◌≢◌, ◌⊎◌, ◌≤◌, ℕ, List, [], ◌∷◌, ◌++◌, length, IsTrue, flat_map, Option, Some, None}
 use Rattle.std.specs.List.{All}
 use Rattle.tdb_stream.specs.SourceContent.{SourceContent}
@@ -64,7 +64,7 @@ HasAnswered c PlatformFault = NoBye c.replies
 HasAnswered c SinkFault = NoBye c.replies
 HasAnswered c Memory = NoBye c.replies
 
--- a reply that wasn't put whole is the last thing of a run: a fault of the sink, or want of memory
+-- Up to the last line, a fault of the sink has cut a reply, and nothing cuts one but such a fault or want of memory.
 abbrev pub HasCut : Option Reply → Status → Type 0
 HasCut (Some reply) SinkFault = Unit {0}
 HasCut (Some reply) Memory = Unit {0}

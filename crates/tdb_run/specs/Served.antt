@@ -94,7 +94,7 @@ IsScriptStatus (AnchorCount formatted) = ⊥
 IsScriptStatus (Damaged finding) = ⊥
 IsScriptStatus (Refused refusal) = ⊥
 
--- how a run may end before its first line
+-- how a run may end that takes nothing from the source
 abbrev pub IsAtOnce : Status → Type 0
 IsAtOnce (Done Script) = ⊥
 IsAtOnce (Done (Formatted segments)) = Unit {0}

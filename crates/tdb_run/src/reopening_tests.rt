@@ -1,11 +1,12 @@
 // Runs over a store that is there: what they find, whatever its device shows.
 use crate::tests::{DONE, Outcome, SCRIPT, run_on, run_over_memory, run_with};
-use crate::{Finding, Status, Success};
+use crate::{Finding, Status, Success, run};
 use sha2::{Digest as _, Sha256};
 use std::alloc::Global;
 use std::test::Fail;
 use tdb_base::{Damage, Digest, Place};
-use tdb_platform::{DEVICE_LIMIT, MemoryPlatform, Platform};
+use tdb_platform::{Answer, DEVICE_LIMIT, HostilePlatform, MemoryPlatform, Platform};
+use tdb_stream::{MemorySink, MemorySource};
 
 const START: [&str; 3] = ["start", "plain", "16"];
 
@@ -273,6 +274,17 @@ fn a_store_is_found_as_it_was_left(rt: HostRuntime) -> Result<(), Fail> {
 }
 
 #[test]
+fn a_note_is_found_by_the_next_run(rt: HostRuntime) -> Result<(), Fail> {
+    let alloc = rt.alloc();
+    let store = run_over_memory(alloc, &START, SCRIPT, [&[], &[], &[]])?;
+    let script = b"begin 1\nget 1 1\nquit\n".as_slice();
+    let end = run_with(alloc, &RUN, script, store.platform, [&[], &[]])?;
+    assert_eq!(rt; end.status, DONE);
+    assert!(rt; end.sink.bytes() == b"begun 1\ngot 1 1 note hello\nbye\n".as_slice());
+    Ok(())
+}
+
+#[test]
 fn a_formatted_store_is_opened(rt: HostRuntime) -> Result<(), Fail> {
     let alloc = rt.alloc();
     let end = run_over_memory(alloc, &["format", "plain", "16"], b"", [&[], &[], &[]])?;
@@ -328,6 +340,73 @@ fn a_device_that_ends_early_is_damaged(rt: HostRuntime) -> Result<(), Fail> {
         found: Digest(Sha256::digest(b"")),
     };
     assert_eq!(rt; end.status, Status::Damaged(Finding::Tampered(damage)));
+    Ok(())
+}
+
+// Runs over the store of one note, one of whose reads shows these bytes of the device with a bit changed. It gives the
+// status and what is put.
+fn run_deceived(
+    alloc: Global,
+    script: &[u8],
+    nth: u64,
+    shown: &Kept,
+) -> Result<(Status, Vec<u8>), Fail> {
+    let store = run_over_memory(alloc, &START, SCRIPT, [&[], &[], &[]])?;
+    let end = shown
+        .place
+        .checked_add(shown.length)
+        .ok_or("a place behind all")?;
+    let kept = store.platform.bytes().get(shown.place..end);
+    let mut bytes = kept.ok_or("no piece there")?.to_vec(alloc)?;
+    change(&mut bytes, 0);
+    let mut answers = Vec::new(alloc);
+    answers.push(Answer { nth, bytes })?;
+    let platform = HostilePlatform::new(store.platform, answers);
+    let mut source = MemorySource::new(script.to_vec(alloc)?, Vec::new(alloc));
+    let mut sink = MemorySink::new(alloc, Vec::new(alloc));
+    let archives = Vec::new(alloc);
+    let ended = run(
+        alloc,
+        &RUN,
+        &mut source,
+        &mut sink,
+        platform,
+        &[0; 32],
+        archives,
+    );
+    Ok((ended.status, sink.bytes().to_vec(alloc)?))
+}
+
+#[test]
+fn what_a_read_shows_counts_for_that_read(rt: HostRuntime) -> Result<(), Fail> {
+    let alloc = rt.alloc();
+    let script = b"begin 1\nget 1 1\nget 1 1\nget 1 1\nquit\n".as_slice();
+    // Six reads open the store: three texts, the table and two lists.
+    let note = Kept {
+        kind: Kind::Record(1),
+        place: 262_928,
+        length: 69,
+    };
+    let (status, put) = run_deceived(alloc, script, 8, &note)?;
+    assert_eq!(rt; status, DONE);
+    assert!(rt;
+        put.as_slice()
+            == b"begun 1\ngot 1 1 note hello\ntampered 1 1\ngot 1 1 note hello\nbye\n".as_slice()
+    );
+    // What is shown in opening is told with its place.
+    for (nth, piece, place) in [
+        (1, opening(512, 256), 512),
+        (3, opening(0, 256), 0),
+        (4, opening(262_144, 576), 262_144),
+        (6, opening(262_997, 136), 262_997),
+    ] {
+        let (status, _) = run_deceived(alloc, script, nth, &piece)?;
+        let Status::Damaged(Finding::Tampered(damage)) = status else {
+            assert!(rt; false, "read {nth}");
+            continue;
+        };
+        assert_eq!(rt; damage.place, Place(place), "read {nth}");
+    }
     Ok(())
 }
 

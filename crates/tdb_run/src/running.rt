@@ -56,9 +56,10 @@ pub fn run<S: Source, K: Sink, P: Platform>(
     ensures unformatted_always { IsRun (texts words.now) → IsTrue (P.outside platform).tells → (P.outside platform).anchor.0 ≡ 0
         → (result.status ≡ AnchorCount false) ⊎ (result.status ≡ PlatformFault) ⊎ (result.status ≡ SinkFault) }
 
-    // The sink holds the replies to the lines taken, and the last line. Whatever the device shows, the run starts from the
-    // state of the anchor's log, each reply is the session's, each commit whose reply was put stands in the log of the
-    // anchor and of each that a stop may leave, and damage is told only where the device has some.
+    // The sink holds the replies to the lines taken, and the last line. Where the platform tells its trace, that has no
+    // collision and no forgery, and the anchor had a log: whatever the device shows, the run starts from that log's state,
+    // each reply is the session's, each commit whose reply was put stands in the log of the anchor and of each that a stop
+    // may leave, and damage is told only where a read showed some.
     ensures outcome { RunOutcome P.outside P.crash_states (texts words.now) secret.now (S.content source.old) (S.content source.new) (K.content sink.old) (K.content sink.new) platform result.platform result.status }
 
     // A run that is refused reads, and leaves the device, the anchor and the source as they were, and nothing new to a stop.
