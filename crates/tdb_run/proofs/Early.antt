@@ -1,5 +1,5 @@
 -- What a run has come to that took no line.
-use Rattle.std.proofs.Common.{ℕ, List, [], None, arith, refl, sym, append-nil}
+use Rattle.std.proofs.Common.{ℕ, List, [], None, inl, arith, refl, sym, append-nil}
 use Rattle.tdb_platform.specs.Outside.{Outside}
 use Rattle.tdb_stream.specs.SinkContent.{SinkContent}
 use Rattle.tdb_stream.specs.SourceContent.{SourceContent}
@@ -36,8 +36,8 @@ module _ (came : SourceContent) where
   answered_none (AnchorCount formatted) is = (refl, refl)
   answered_none (Damaged finding) is = (refl, refl)
   answered_none (Refused refusal) is = (refl, refl)
-  answered_none PlatformFault is = λ k d within. absurd (omega (arith, within))
-  answered_none Memory is = λ k d within. absurd (omega (arith, within))
+  answered_none PlatformFault is = (λ k d within. absurd (omega (arith, within)), inl refl)
+  answered_none Memory is = (λ k d within. absurd (omega (arith, within)), inl refl)
   answered_none (Done Script) is = absurd is
   answered_none SourceFault is = absurd is
   answered_none SinkFault is = absurd is

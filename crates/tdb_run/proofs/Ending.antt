@@ -8,9 +8,10 @@ use Rattle.tdb_script.specs.ReplySpelling.{reply_spelling}
 use Rattle.tdb_script.specs.declared.reply.Reply.{Reply}
 use Rattle.tdb_script.specs.declared.reply.Reply.TheVariants.{Bye}
 use Rattle.tdb_run.specs.PutReply.{IsPutFor}
-use Rattle.tdb_run.specs.Replies.{Conversation, HasAnswered, HasCut}
+use Rattle.tdb_run.specs.Replies.{Conversation, HasAnswered, HasCut, IsAtNext}
 use Rattle.tdb_run.specs.Served.{HasHeld, Served}
 use Rattle.tdb_run.specs.Stopping.{IsNextLine, IsStopOfLine, LeavesUnanswered, StopsFor}
+use Rattle.tdb_run.specs.Unread.{unread}
 use Rattle.tdb_run.specs.declared.script_lines.ScriptLines.{ScriptLines}
 use Rattle.tdb_run.specs.declared.status.Success.TheVariants.{Script}
 use Rattle.tdb_run.specs.declared.status.Status.{Status}
@@ -22,7 +23,7 @@ use Rattle.tdb_run.proofs.Stops.{left_cases, line_cases, put_cases}
 abbrev pub served_none : (came : SourceContent) (before : SinkContent) → Served came came before before Memory
 served_none came before = record {
   conversation = no_conversation came;
-  answered = λ k d h. absurd (omega (arith, h));
+  answered = (λ k d h. absurd (omega (arith, h)), inl refl);
   cut = tt;
   held = λ told. sym (append-nil before.held);
 }
@@ -49,9 +50,12 @@ module _ (came now later : SourceContent) (same : now.tells ≡ came.tells) (bef
     abbrev pub conversation_cut : Option Reply → Conversation came later
     conversation_cut cut = unanswered_line came now later same lines next s.conversation s.unread_is s.counted line n cut
 
+    at_next : IsAtNext (line ++ 10 ∷ unread next)
+    at_next = (line, unread next, refl, n.no_line_feed, omega (arith, length-take (next.end - next.start) (drop next.start next.chunk.items), next.ordered, next.within))
+
     -- the next line was read, and not answered
     pub answered_line_stopped : (old new : Outside) (status : Status) → IsStopOfLine old new status → HasAnswered (conversation_cut None) status
-    answered_line_stopped old new status stops = line_cases (λ st. HasAnswered (conversation_cut None) st) old new s.no_bye (λ rose. s.no_bye) status stops
+    answered_line_stopped old new status stops = line_cases (λ st. HasAnswered (conversation_cut None) st) old new (s.no_bye, inr at_next) (λ rose. (s.no_bye, inr at_next)) status stops
 
     pub held_line_stopped : (old new : Outside) (status : Status) → IsStopOfLine old new status → IsTrue before.tells → HasHeld (conversation_cut None) before.held after.held status
     held_line_stopped old new status stops told = line_cases (λ st. HasHeld (conversation_cut None) before.held after.held st) old new (s.put told) (λ rose. s.put told) status stops
@@ -62,7 +66,7 @@ module _ (came now later : SourceContent) (same : now.tells ≡ came.tells) (bef
     -- the next line was answered, and its reply wasn't put whole
     module _ (last : SinkContent) (reply : Reply) where
       pub answered_cut : (status : Status) → IsPutFor (reply_spelling reply) after last status → HasAnswered (conversation_cut (Some reply)) status
-      answered_cut status stops = put_cases (λ st. HasAnswered (conversation_cut (Some reply)) st) (reply_spelling reply) after last (λ memory. s.no_bye) (λ fault. s.no_bye) status stops
+      answered_cut status stops = put_cases (λ st. HasAnswered (conversation_cut (Some reply)) st) (reply_spelling reply) after last (λ memory. (s.no_bye, inr at_next)) (λ fault. (s.no_bye, at_next)) status stops
 
       pub cut_reply : (status : Status) → IsPutFor (reply_spelling reply) after last status → HasCut (Some reply) status
       cut_reply status stops = put_cases (λ st. HasCut (Some reply) st) (reply_spelling reply) after last (λ memory. tt) (λ fault. tt) status stops

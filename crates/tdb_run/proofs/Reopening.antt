@@ -77,7 +77,7 @@ pub explained_error : (store : Store) (old new : Outside) (from : StoreState) (e
     → ((place : Place) → error ≡ opening.Form place → ⊥) → IsExplainedStop store old new from (status_after error)
 explained_error store old new from opening.Unformatted tampered form = tt
 explained_error store old new from (opening.Tampered damage) tampered form = tampered damage refl
-explained_error store old new from (opening.Form place) tampered form = λ user. form place refl
+explained_error store old new from (opening.Form place) tampered form = absurd (form place refl)
 explained_error store old new from opening.Fault tampered form = tt
 explained_error store old new from opening.Memory tampered form = tt
 

@@ -190,7 +190,7 @@ module _ {D : Type 0} (outside : D → Outside) (crash_states : D → CrashState
             maybe = [];
             replies = sym no_reply;
             ran = inl (
-              inr (record { opened = b.opened; begins = b.begins; untaken = untaken; no_line = no_line; no_next = no_next; no_answer = refl; none = refl; ends_so = tt }),
+              inr (record { opened = b.opened; begins = b.begins; made = b.log; untaken = untaken; no_line = no_line; no_next = no_next; no_answer = refl; none = refl; ends_so = tt }),
               record {
                 left = λ i a left. subst (HasAllOf written store history (b.begun ++ []) []) (sym (settled told i a left)) log;
                 any_moment =

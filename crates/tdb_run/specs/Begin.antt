@@ -2,6 +2,7 @@
 use Rattle.std.specs.Prelude.{◌≡◌, ◌⊎◌, IsTrue, ℕ, List, [], ◌++◌, Option, Some, None, Ok, Err}
 use Rattle.std.specs.FinMap.{get}
 use Rattle.tdb_base.specs.declared.suite.Suite.TheVariants.{Plain}
+use Rattle.tdb_append.specs.Put.{slot_place}
 use Rattle.tdb_base.specs.Rose.{Rose}
 use Rattle.tdb_model.specs.declared.error.CommitError.{CommitError}
 use Rattle.tdb_model.specs.declared.error.CommitError.TheVariants as refusals
@@ -113,7 +114,7 @@ refusal_of Counter = refusals.CounterEnd
 -- each piece that has its digest fits the others; and the commit that makes the partitions is refused by its cause.
 abbrev pub IsExplainedStop : Store → Outside → Outside → StoreState → Status → Type 0
 IsExplainedStop store old new from (Damaged (Tampered damage)) = IsDamageOf old new (IsOpeningPiece old.trace.written store old.anchor) damage
-IsExplainedStop store old new from (Damaged (Form place)) = HasUserPartitions from.chunks → ⊥
+IsExplainedStop store old new from (Damaged (Form place)) = (HasUserPartitions from.chunks → ⊥) × (place.0 ≡ slot_place from.count)
 IsExplainedStop store old new from (Refused refusal) = HasNone from.chunks × (commit_on store from (opening_changes Plain) ≡ Err (refusal_of refusal))
 IsExplainedStop store old new from (AnchorCount formatted) = Unit {0}
 IsExplainedStop store old new from (Done success) = Unit {0}

@@ -49,8 +49,12 @@ pub record Conversation (came gone : SourceContent) : Type 0 where
   pub each : All HasNoLineFeed lines
   pub one_each : length replies ≡ length lines
 
--- Which lines a run that ends so has answered. At `bye` no more was taken than one take gives, and where the source
--- failed every whole line had been answered.
+-- The next line was taken, and behind it at most as many bytes as one take gives.
+abbrev pub IsAtNext : List ℕ → Type 0
+IsAtNext unanswered = (line : List ℕ) × (later : List ℕ) × (unanswered ≡ line ++ 10 ∷ later) × HasNoLineFeed line × (length later ≤ 65536)
+
+-- Which lines a run that ends so has answered. Behind `bye` stand at most as many bytes as one take gives. Where the source
+-- failed every whole line had been answered. At each other fault the run stands at the next line, or has taken nothing.
 abbrev pub HasAnswered : {came gone : SourceContent} → Conversation came gone → Status → Type 0
 HasAnswered c (Done Script) = EndsInBye c.replies × (length c.unanswered ≤ 65536)
 HasAnswered {came} {gone} c End = NoBye c.replies × HasNoLineFeed c.unanswered × IsTakenOut gone c.taken
@@ -60,9 +64,9 @@ HasAnswered c Usage = (c.taken ≡ []) × (c.replies ≡ [])
 HasAnswered c (AnchorCount formatted) = (c.taken ≡ []) × (c.replies ≡ [])
 HasAnswered c (Damaged finding) = (c.taken ≡ []) × (c.replies ≡ [])
 HasAnswered c (Refused refusal) = (c.taken ≡ []) × (c.replies ≡ [])
-HasAnswered c PlatformFault = NoBye c.replies
-HasAnswered c SinkFault = NoBye c.replies
-HasAnswered c Memory = NoBye c.replies
+HasAnswered c PlatformFault = NoBye c.replies × ((c.taken ≡ []) ⊎ IsAtNext c.unanswered)
+HasAnswered c SinkFault = NoBye c.replies × IsAtNext c.unanswered
+HasAnswered c Memory = NoBye c.replies × ((c.taken ≡ []) ⊎ IsAtNext c.unanswered)
 
 -- Up to the last line, a fault of the sink has cut a reply, and nothing cuts one but such a fault or want of memory.
 abbrev pub HasCut : Option Reply → Status → Type 0

@@ -8,6 +8,7 @@ use Rattle.tdb_stream.specs.SinkContent.{SinkContent}
 use Rattle.tdb_stream.specs.SourceContent.{SourceContent}
 use Rattle.tdb_chunk.specs.Formatting.{plain_store}
 use Rattle.tdb_overlay.specs.Found.{Store}
+use Rattle.tdb_overlay.specs.Growth.{IsSettled}
 use Rattle.tdb_overlay.specs.Log.{IsLog}
 use Rattle.tdb_overlay.specs.Reading.{OnlyReads}
 use Rattle.tdb_overlay.specs.StoreState.{StoreState}
@@ -57,10 +58,11 @@ pub record HasScript {came gone : SourceContent} (store : Store) (c : Conversati
   pub none_at_done : NoneAtDone status maybe
   pub ends_so : IsScriptStatus status
 
--- A new store was made, and no line taken.
-pub record HasNewStore {came gone : SourceContent} (c : Conversation came gone) (opens : StoreState → History → StoreState → Type 0) (from : StoreState) (status : Status) (begun : History) (answers : List Answer) (maybe : History) : Type 0 where
+-- A new store was made, whose log the anchor has, and no line taken.
+pub record HasNewStore {came gone : SourceContent} (store : Store) (c : Conversation came gone) (opens : StoreState → History → StoreState → Type 0) (new : Outside) (history : History) (from : StoreState) (status : Status) (begun : History) (answers : List Answer) (maybe : History) : Type 0 where
   pub opened : StoreState
   pub begins : opens from begun opened
+  pub made : IsLog new.trace.written store new.anchor (history ++ begun) opened
   pub untaken : c.taken ≡ []
   pub no_line : c.lines ≡ []
   pub no_next : c.next ≡ None
@@ -88,7 +90,7 @@ pub record RunRan {D : Type 0} (outside : D → Outside) (crash_states : D → C
   pub maybe : History
   pub replies : map (λ given. given.reply) answers ≡ c.replies
   pub ran :
-      ((HasScript store c opens (outside old) (outside new) history from status begun answers maybe ⊎ HasNewStore c opens from status begun answers maybe)
+      ((HasScript store c opens (outside old) (outside new) history from status begun answers maybe ⊎ HasNewStore store c opens (outside new) history from status begun answers maybe)
       × LeavesLog outside crash_states store old new history (begun ++ added_by answers) maybe)
       ⊎ (HasNoScript c opens from status begun answers maybe × LeavesLogOrNothing outside crash_states store old new history maybe)
   pub explained : IsExplainedStop store (outside old) (outside new) from status
@@ -100,21 +102,31 @@ pub record RunRan {D : Type 0} (outside : D → Outside) (crash_states : D → C
 abbrev pub RunOver : {D : Type 0} → (D → Outside) → (D → CrashStates) → Store → {came gone : SourceContent} → Conversation came gone → Opens → D → D → Status → Type 0
 RunOver outside crash_states store c opens old new status = OverStart outside old new store (λ history from. RunRan outside crash_states store c opens old new history from status)
 
+-- how the command `format` ends
+abbrev pub IsStopWithoutScript : Outside → Outside → Status → Type 0
+IsStopWithoutScript old new (Done Script) = ⊥
+IsStopWithoutScript old new (Done (Formatted segments)) = Unit {0}
+IsStopWithoutScript old new status = IsEarlyStop old new status
+
 -- What a command's run has come to before its last line: its conversation, and by its words what that was.
 pub record RunServed {D : Type 0} (outside : D → Outside) (crash_states : D → CrashStates) (words : List (List ℕ)) (secret : List ℕ) (came gone : SourceContent) (before after : SinkContent) (old new : D) (status : Status) : Type 0 where
   pub served : Served came gone before after status
   pub start : (segments : ℕ) → IsStart words segments → RunOver outside crash_states (plain_store secret segments) served.conversation (IsNewStore (plain_store secret segments)) old new status
-  pub format : (segments : ℕ) → IsFormat words segments → (served.conversation.taken ≡ []) × RunOver outside crash_states (plain_store secret segments) served.conversation (IsNewStore (plain_store secret segments)) old new status
+  pub format : (segments : ℕ) → IsFormat words segments → (served.conversation.taken ≡ []) × IsStopWithoutScript (outside old) (outside new) status × RunOver outside crash_states (plain_store secret segments) served.conversation (IsNewStore (plain_store secret segments)) old new status
   pub reopened : IsRun words → (store : Store) → store.secret ≡ secret → RunOver outside crash_states store served.conversation (IsReopened store) old new status
 
--- How a run was to end when it came to its last line, by its words, by the anchor's count and by what failed before.
+-- How a run was to end when it came to its last line, by its words, by the anchor's count and by what failed before. A run
+-- that was to be refused only read, and a stop leaves the anchor that it was told.
 pub record IsMeant {D : Type 0} (outside : D → Outside) (crash_states : D → CrashStates) (words : List (List ℕ)) (came gone : SourceContent) (before after : SinkContent) (old new : D) (meant : Status) : Type 0 where
   pub usage : (meant ≡ Usage) ↔ IsNoCommand words
   pub already : meant ≡ AnchorCount true → IsOfNewStore words × (IsTrue (outside old).tells → (outside old).anchor.0 ≢ 0)
+  pub already_always : IsOfNewStore words → IsTrue (outside old).tells → (outside old).anchor.0 ≢ 0 → (meant ≡ AnchorCount true) ⊎ (meant ≡ PlatformFault)
   pub unformatted : meant ≡ AnchorCount false → IsRun words × (IsTrue (outside old).tells → (outside old).anchor.0 ≡ 0)
+  pub unformatted_always : IsRun words → IsTrue (outside old).tells → (outside old).anchor.0 ≡ 0 → (meant ≡ AnchorCount false) ⊎ (meant ≡ PlatformFault)
   pub formatted : (segments : ℕ) → meant ≡ Done (Formatted segments) → IsFormat words segments
   pub scripts : meant ≡ Done Script → (segments : ℕ) → IsFormat words segments → ⊥
-  pub refused : WasRefused meant → OnlyReads outside crash_states old new
+  pub refused : WasRefused meant → OnlyReads outside crash_states old new × IsSettled outside crash_states new
+  pub refused_new : IsOfNewStore words → WasRefused meant → meant ≡ AnchorCount true
   pub caused : IsCaused came gone before after (outside old) (outside new) meant
   pub kept : Keeps came gone before after (outside old) (outside new)
 
@@ -125,9 +137,3 @@ pub record RunOutcome {D : Type 0} (outside : D → Outside) (crash_states : D �
   pub is_meant : IsMeant outside crash_states words came gone before middle old new meant
   pub served : RunServed outside crash_states words secret came gone before middle old new meant
   pub last_line : EndsWith middle after meant status
-
--- how the command `format` ends
-abbrev pub IsStopWithoutScript : Outside → Outside → Status → Type 0
-IsStopWithoutScript old new (Done Script) = ⊥
-IsStopWithoutScript old new (Done (Formatted segments)) = Unit {0}
-IsStopWithoutScript old new status = IsEarlyStop old new status

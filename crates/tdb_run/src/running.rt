@@ -2,6 +2,7 @@
 ghost use Rattle.std.specs.Prelude.{◌≡◌, ◌≢◌, ◌⊎◌, ◌↔◌, ◌≤◌, [], ℕ, IsTrue, None, false, true};
 ghost use Rattle.tdb_chunk.specs.Formatting.{plain_store};
 ghost use Rattle.tdb_overlay.specs.Found.{Store};
+ghost use Rattle.tdb_overlay.specs.Growth.{IsSettled};
 ghost use Rattle.tdb_overlay.specs.Intact.{StaysIntact};
 ghost use Rattle.tdb_overlay.specs.Reading.{OnlyReads};
 ghost use Rattle.tdb_overlay.specs.SealedOnly.{OnlySealed};
@@ -62,8 +63,9 @@ pub fn run<S: Source, K: Sink, P: Platform>(
     // may leave, and damage is told only where a read showed some.
     ensures outcome { RunOutcome P.outside P.crash_states (texts words.now) secret.now (S.content source.old) (S.content source.new) (K.content sink.old) (K.content sink.new) platform result.platform result.status }
 
-    // A run that is refused reads, and leaves the device, the anchor and the source as they were, and nothing new to a stop.
-    ensures refused { WasRefused result.status → OnlyReads P.outside P.crash_states platform result.platform × (source.new ≡ source.old) }
+    // A run that is refused reads, and leaves the device, the anchor and the source as they were, and nothing new to a stop:
+    // no anchor but the one that it was told.
+    ensures refused { WasRefused result.status → OnlyReads P.outside P.crash_states platform result.platform × IsSettled P.outside P.crash_states result.platform × (source.new ≡ source.old) }
     ensures refused_new { IsOfNewStore (texts words.now) → WasRefused result.status → result.status ≡ AnchorCount true }
     ensures no_command { IsNoCommand (texts words.now) → (result.platform ≡ platform) × (source.new ≡ source.old) }
     ensures format_takes_nothing { (segments : ℕ) → IsFormat (texts words.now) segments → source.new ≡ source.old }
@@ -109,7 +111,7 @@ fn outcome<S: Source, K: Sink, P: Platform>(
     ensures unformatted { result ≡ AnchorCount false → IsRun (texts words.now) × (IsTrue (P.outside platform.old).tells → (P.outside platform.old).anchor.0 ≡ 0) }
     ensures unformatted_always { IsRun (texts words.now) → IsTrue (P.outside platform.old).tells → (P.outside platform.old).anchor.0 ≡ 0
         → (result ≡ AnchorCount false) ⊎ (result ≡ PlatformFault) }
-    ensures refused { WasRefused result → OnlyReads P.outside P.crash_states platform.old platform.new × (source.new ≡ source.old) }
+    ensures refused { WasRefused result → OnlyReads P.outside P.crash_states platform.old platform.new × IsSettled P.outside P.crash_states platform.new × (source.new ≡ source.old) }
     ensures refused_new { IsOfNewStore (texts words.now) → WasRefused result → result ≡ AnchorCount true }
     ensures no_command { IsNoCommand (texts words.now) → (platform.new ≡ platform.old) × (source.new ≡ source.old) }
     ensures format_takes_nothing { (segments : ℕ) → IsFormat (texts words.now) segments → source.new ≡ source.old }
@@ -148,7 +150,7 @@ fn start<S: Source, K: Sink, P: Platform>(
     ensures never { result ≢ AnchorCount false }
     ensures already_always { IsTrue (P.outside platform.old).tells → (P.outside platform.old).anchor.0 ≢ 0 → (result ≡ AnchorCount true) ⊎ (result ≡ PlatformFault) }
     ensures already_untouched { IsTrue (P.outside platform.old).tells → (P.outside platform.old).anchor.0 ≢ 0 → IsUnwritten (P.outside platform.old) (P.outside platform.new) × (source.new ≡ source.old) }
-    ensures refused { WasRefused result → (result ≡ AnchorCount true) × OnlyReads P.outside P.crash_states platform.old platform.new × (source.new ≡ source.old) }
+    ensures refused { WasRefused result → (result ≡ AnchorCount true) × OnlyReads P.outside P.crash_states platform.old platform.new × IsSettled P.outside P.crash_states platform.new × (source.new ≡ source.old) }
     ensures intact { (store : Store) → store.secret ≡ secret.now → StaysIntact store (P.outside platform.old) (P.outside platform.new) }
     ensures sealed { OnlySealed secret.now (P.outside platform.old) (P.outside platform.new) }
     ensures causes { IsCaused (S.content source.old) (S.content source.new) (K.content sink.old) (K.content sink.new) (P.outside platform.old) (P.outside platform.new) result }
@@ -174,7 +176,7 @@ fn format<P: Platform>(alloc: Global, platform: &mut P, secret: &[u8; 32], segme
     ensures never { result ≢ AnchorCount false }
     ensures already_always { IsTrue (P.outside platform.old).tells → (P.outside platform.old).anchor.0 ≢ 0 → (result ≡ AnchorCount true) ⊎ (result ≡ PlatformFault) }
     ensures already_untouched { IsTrue (P.outside platform.old).tells → (P.outside platform.old).anchor.0 ≢ 0 → IsUnwritten (P.outside platform.old) (P.outside platform.new) }
-    ensures refused { WasRefused result → (result ≡ AnchorCount true) × OnlyReads P.outside P.crash_states platform.old platform.new }
+    ensures refused { WasRefused result → (result ≡ AnchorCount true) × OnlyReads P.outside P.crash_states platform.old platform.new × IsSettled P.outside P.crash_states platform.new }
     ensures intact { (store : Store) → store.secret ≡ secret.now → StaysIntact store (P.outside platform.old) (P.outside platform.new) }
     ensures goes_on { GoesOn (plain_store secret.now segments) (P.outside platform.old) (P.outside platform.new) }
     ensures early { IsStopWithoutScript (P.outside platform.old) (P.outside platform.new) result }
@@ -200,7 +202,7 @@ fn reopen<S: Source, K: Sink, P: Platform>(
     ensures unformatted { result ≡ AnchorCount false → IsTrue (P.outside platform.old).tells → (P.outside platform.old).anchor.0 ≡ 0 }
     ensures never { result ≢ AnchorCount true }
     ensures unformatted_always { IsTrue (P.outside platform.old).tells → (P.outside platform.old).anchor.0 ≡ 0 → (result ≡ AnchorCount false) ⊎ (result ≡ PlatformFault) }
-    ensures refused { WasRefused result → OnlyReads P.outside P.crash_states platform.old platform.new × (source.new ≡ source.old) }
+    ensures refused { WasRefused result → OnlyReads P.outside P.crash_states platform.old platform.new × IsSettled P.outside P.crash_states platform.new × (source.new ≡ source.old) }
     ensures intact { (store : Store) → store.secret ≡ secret.now → StaysIntact store (P.outside platform.old) (P.outside platform.new) }
     ensures sealed { OnlySealed secret.now (P.outside platform.old) (P.outside platform.new) }
     ensures causes { IsCaused (S.content source.old) (S.content source.new) (K.content sink.old) (K.content sink.new) (P.outside platform.old) (P.outside platform.new) result }

@@ -48,7 +48,7 @@ pub(crate) fn new_store<P: Platform>(
         (λ history from. HasNotBegun P.outside P.crash_states (plain_store secret.now segments) (IsNewStore (plain_store secret.now segments)) platform.old platform.new history from
         × IsExplainedStop (plain_store secret.now segments) (P.outside platform.old) (P.outside platform.new) from status)) }
     ensures early { IfErr result (λ status. IsEarlyStop (P.outside platform.old) (P.outside platform.new) status) }
-    ensures refused { IfErr result (λ status. WasRefused status → (status ≡ AnchorCount true) × OnlyReads P.outside P.crash_states platform.old platform.new) }
+    ensures refused { IfErr result (λ status. WasRefused status → (status ≡ AnchorCount true) × OnlyReads P.outside P.crash_states platform.old platform.new × IsSettled P.outside P.crash_states platform.new) }
     ensures already { result ≡ Err (AnchorCount true) → IsTrue (P.outside platform.old).tells → (P.outside platform.old).anchor.0 ≢ 0 }
     ensures never { result ≢ Err (AnchorCount false) }
     ensures already_always { IsTrue (P.outside platform.old).tells → (P.outside platform.old).anchor.0 ≢ 0 → (result ≡ Err (AnchorCount true)) ⊎ (result ≡ Err PlatformFault) }
@@ -151,7 +151,7 @@ pub(crate) fn open_store<P: Platform>(
         (λ history from. HasNotBegun P.outside P.crash_states store (IsReopened store) platform.old platform.new history from
         × IsExplainedStop store (P.outside platform.old) (P.outside platform.new) from status)) }
     ensures early { IfErr result (λ status. IsEarlyStop (P.outside platform.old) (P.outside platform.new) status) }
-    ensures refused { IfErr result (λ status. WasRefused status → OnlyReads P.outside P.crash_states platform.old platform.new) }
+    ensures refused { IfErr result (λ status. WasRefused status → OnlyReads P.outside P.crash_states platform.old platform.new × IsSettled P.outside P.crash_states platform.new) }
     ensures unformatted { result ≡ Err (AnchorCount false) → IsTrue (P.outside platform.old).tells → (P.outside platform.old).anchor.0 ≡ 0 }
     ensures never { result ≢ Err (AnchorCount true) }
     ensures unformatted_always { IsTrue (P.outside platform.old).tells → (P.outside platform.old).anchor.0 ≡ 0 → (result ≡ Err (AnchorCount false)) ⊎ (result ≡ Err PlatformFault) }

@@ -44,6 +44,7 @@ returns-in-Some-Format-clause-served g c =
       start = λ segments is. absurd (start_not_format words segments c.in-Some-Format.segments is said);
       format = λ segments is. (
         refl,
+        c.format.ensures.early,
         subst
             (λ (n : ℕ). RunOver g.P.Platform.outside g.P.Platform.crash_states (plain_store c.args.secret.now n) (no_conversation came) (IsNewStore (plain_store c.args.secret.now n)) old new c.format.result)
             (one_format words c.in-Some-Format.segments segments said is) (c.format.ensures.ran came came (no_conversation came) refl refl refl refl),

@@ -17,10 +17,13 @@ returns-clause-outcome g c = record {
   is_meant = record {
     usage = c.outcome-status.ensures.usage;
     already = c.outcome-status.ensures.already;
+    already_always = c.outcome-status.ensures.already_always;
     unformatted = c.outcome-status.ensures.unformatted;
+    unformatted_always = c.outcome-status.ensures.unformatted_always;
     formatted = c.outcome-status.ensures.formatted;
     scripts = c.outcome-status.ensures.scripts;
-    refused = λ was. (c.outcome-status.ensures.refused was).0;
+    refused = λ was. let r = c.outcome-status.ensures.refused was in (r.0, r.1);
+    refused_new = c.outcome-status.ensures.refused_new;
     caused = c.outcome-status.ensures.causes;
     kept = c.outcome-status.ensures.keeps;
   };

@@ -1,4 +1,4 @@
-use Rattle.std.proofs.Common.{◌≡◌, Err, IfOk, IfErr, List, ℕ, ap, refl, true, ◌∙◌, subst}
+use Rattle.std.proofs.Common.{◌≡◌, Err, IfOk, IfErr, IsTrue, List, ℕ, ap, refl, true, ◌∙◌, subst}
 use Rattle.tdb_chunk.specs.Formatting.{plain_store}
 use Rattle.tdb_chunk.specs.declared.store.Store as memory
 use Rattle.tdb_overlay.specs.Found.{Store}
@@ -8,6 +8,7 @@ use Rattle.tdb_run.specs.Making.{HasMade, HasNotMade, IsStopOfMaking}
 use Rattle.tdb_run.specs.declared.status.Status.{Status}
 use Rattle.tdb_run.proofs.RunBeginning.{anchor_reads, begun_over, if_err, if_ok, not_begun_over, not_begun_read, reads_goes, whole_after}
 use Rattle.tdb_run.proofs.Making.{explained_making}
+use Rattle.tdb_overlay.specs.Growth.{IsSettled}
 use Rattle.tdb_overlay.specs.Reading.{OnlyReads}
 use Rattle.tdb_run.specs.Served.{WasRefused}
 use Rattle.tdb_run.specs.declared.status.Status.TheVariants.{AnchorCount}
@@ -98,7 +99,7 @@ returns-in-Ok-eq0-default-clause-refused g c =
     let mid = c.anchor.new.self in
     let new = c.make_store.new.platform in
     if_err (λ (e : Status). IsStopOfMaking (outside mid) (outside new) e) (λ (e : Status). IsStopOfMaking (outside mid) (outside new) e)
-    (λ (e : Status). WasRefused e → (e ≡ AnchorCount true) × OnlyReads outside g.P.Platform.crash_states c.args.platform.now new) c.make_store.result
+    (λ (e : Status). WasRefused e → (e ≡ AnchorCount true) × OnlyReads outside g.P.Platform.crash_states c.args.platform.now new × IsSettled outside g.P.Platform.crash_states new) c.make_store.result
     (λ e is why same was.
     let refusal = making_refused (outside mid) (outside new) e why was in
     absurd (c.make_store.ensures.never_refused refusal.0 (is ∙ ap (λ (s : Status). Err s) refusal.1))) c.make_store.ensures.why c.make_store.ensures.why
@@ -106,4 +107,5 @@ returns-in-Ok-eq0-default-clause-refused g c =
 pub returns-in-Ok-clause-refused : goal.returns-in-Ok-clause-refused
 returns-in-Ok-clause-refused g c was =
     let a = c.anchor.ensures in
-    (refl, anchor_reads g.P.Platform.outside g.P.Platform.crash_states g.met.P.Platform.counts c.args.platform.now c.anchor.new.self c.anchor.result a.trace a.anchor a.image a.now a.time a.told)
+    let reads = anchor_reads g.P.Platform.outside g.P.Platform.crash_states g.met.P.Platform.counts c.args.platform.now c.anchor.new.self c.anchor.result a.trace a.anchor a.image a.now a.time a.told in
+    (refl, reads, λ told. c.in-Ok.ensures.settled (subst IsTrue reads.tells told))

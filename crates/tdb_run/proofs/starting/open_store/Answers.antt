@@ -13,6 +13,7 @@ use Rattle.tdb_run.specs.declared.status.Status.{Status}
 use Rattle.tdb_run.proofs.RunBeginning.{begun_after, if_err, if_ok_both, intact_read, not_begun_after, not_begun_read, reads_goes}
 use Rattle.tdb_run.proofs.Over.{goes_along}
 use Rattle.tdb_run.proofs.Reopening.{explained_earlier, explained_error, over_opened}
+use Rattle.tdb_overlay.specs.Growth.{IsSettled}
 use Rattle.tdb_overlay.specs.Reading.{OnlyReads}
 use Rattle.tdb_run.specs.Served.{WasRefused}
 use Rattle.tdb_run.proofs.starting.open_store.Goals as goal
@@ -94,5 +95,5 @@ returns-in-Ok-clause-refused g c =
     let old = c.args.platform.now in
     let mid = c.recover.new.platform in
     let new = c.with_partitions.new.platform in
-    if_err (λ (e : Status). WasRefused e → new ≡ mid) (λ (e : Status). WasRefused e → new ≡ mid) (λ (e : Status). WasRefused e → OnlyReads outside crash_states old new) c.with_partitions.result
-    (λ e is stays same was. subst (OnlyReads outside crash_states old) (sym (stays was)) c.recover.ensures.reads) c.with_partitions.ensures.stays c.with_partitions.ensures.stays
+    if_err (λ (e : Status). WasRefused e → new ≡ mid) (λ (e : Status). WasRefused e → new ≡ mid) (λ (e : Status). WasRefused e → OnlyReads outside crash_states old new × IsSettled outside crash_states new) c.with_partitions.result
+    (λ e is stays same was. (subst (OnlyReads outside crash_states old) (sym (stays was)) c.recover.ensures.reads, subst (IsSettled outside crash_states) (sym (stays was)) (c.recover.ensures.settled (λ failed. cc failed)))) c.with_partitions.ensures.stays c.with_partitions.ensures.stays

@@ -1,6 +1,7 @@
 use Rattle.tdb_overlay.specs.Needed.{needed}
-use Rattle.std.proofs.Common.{⊎_elim, refl}
+use Rattle.std.proofs.Common.{◌∙◌, ⊎_elim, ap, refl}
 use Rattle.std.proofs.lemmas.Bool.{false≢true}
+use Rattle.tdb_append.specs.Put.{slot_place}
 use Rattle.tdb_model.proofs.RangeLemmas.{empty_in_range}
 use Rattle.tdb_chunk.specs.Known.{store_of}
 use Rattle.tdb_overlay.specs.Found.{in_trace}
@@ -30,9 +31,12 @@ returns-else-may_make-clause-not_made g c told sound history from is at =
     let store = store_of c.args.store in
     let in_range = log_in_range (in_trace old.trace.written) store (first_state store) is.chain history from empty_in_range is.tells in (
       not_made_as_is g.P.Platform.outside g.P.Platform.crash_states g.met.P.Platform.counts store c.args.platform.now told c.requires.settled history from is,
-      λ user.
-          ⊎_elim (λ both. false≢true (c.if-has_both.ensures.1 both)) (λ neither. false≢true (c.if-may_make.ensures.1 neither))
-          (user_partitions (needed old.trace.written (store_of c.args.store) old.anchor) store.secret c.args.store.log.overlay from.chunks at.chunks in_range user),
+      (
+        λ user.
+            ⊎_elim (λ both. false≢true (c.if-has_both.ensures.1 both)) (λ neither. false≢true (c.if-may_make.ensures.1 neither))
+            (user_partitions (needed old.trace.written (store_of c.args.store) old.anchor) store.secret c.args.store.log.overlay from.chunks at.chunks in_range user),
+        c.slot_of.ensures.place ∙ ap slot_place (c.count.ensures ∙ at.count),
+      ),
     )
 
 pub returns-else-may_make-clause-goes_on : goal.returns-else-may_make-clause-goes_on
