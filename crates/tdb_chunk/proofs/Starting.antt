@@ -33,9 +33,9 @@ use Rattle.tdb_overlay.specs.Found.{Store}
 use Rattle.tdb_overlay.specs.Keys.{system_key}
 use Rattle.tdb_overlay.specs.Log.{IsCheckpointOn, IsLog, IsLogOf, IsStep, end_of}
 use Rattle.tdb_overlay.specs.Found.{in_trace}
-use Rattle.tdb_overlay.specs.StoreState.{StoreState, first_state}
+use Rattle.tdb_overlay.specs.StoreState.{StoreState, first_place, first_state, formatted_state}
 use Rattle.tdb_chunk.specs.Committing.{AddedFrom}
-use Rattle.tdb_chunk.specs.Formatting.{Formatted, IsStart, first_place, formatted_state, plain_store}
+use Rattle.tdb_chunk.specs.Formatting.{Formatted, IsStart, plain_store}
 use Rattle.tdb_chunk.specs.LaidOut.{IsOneOf, LaidOut, in_pieces}
 use Rattle.tdb_chunk.specs.Names.{table_name}
 use Rattle.tdb_chunk.specs.Text.{anchor_of, next_commit, text_in_slot, text_of}
@@ -143,10 +143,11 @@ first_steps o secret head segments c ps space s zero_count start before from is 
     let checkpoint : IsCheckpointOn (in_pieces ps) store from c (formatted_state store) = record {
       kind = ap (λ (k : Commit). k.kind) s.commit;
       next = omega (arith, one, none);
+      first = from_is;
       root = ap (λ (k : Commit). k.root) s.commit;
-      none = ap (λ (x : StoreState). x.chunks) from_is;
       table = s.table;
       after_is = after;
+      formatted = refl;
     } in
     let step : IsStep (in_pieces ps) store from c [] (formatted_state store) =
     record { suite = ap (λ (k : Commit). k.suite) s.commit; segments = ap (λ (k : Commit). k.segments) s.commit; adds = inl (checkpoint, refl) } in

@@ -3,16 +3,14 @@ use Rattle.std.specs.Prelude.{◌≡◌, ℕ, List, []}
 use Rattle.tdb_append.specs.Placed.{Placed}
 use Rattle.tdb_append.specs.declared.head.Head.{Head}
 use Rattle.tdb_base.specs.declared.piece.Piece.{Piece}
-use Rattle.tdb_base.specs.declared.piece.Place.{Place}
 use Rattle.tdb_base.specs.declared.suite.Suite.TheVariants.{Plain}
 use Rattle.tdb_mark.specs.declared.commit.Commit.{Commit}
 use Rattle.tdb_mark.specs.CommitFormat.{IsInFormat}
-use Rattle.tdb_model.specs.State.{no_partitions}
-use Rattle.tdb_seg.specs.SegmentSpace.{SegmentSpace, fresh_space, segment_start, with_bytes}
+use Rattle.tdb_seg.specs.SegmentSpace.{SegmentSpace, fresh_space, with_bytes}
 use Rattle.tdb_overlay.specs.Changes.{HasTable}
 use Rattle.tdb_overlay.specs.Found.{Store}
 use Rattle.tdb_overlay.specs.Growth.{Commits}
-use Rattle.tdb_overlay.specs.StoreState.{StoreState, record_length}
+use Rattle.tdb_overlay.specs.StoreState.{first_place, formatted_state}
 use Rattle.tdb_seg.specs.TableSpace.{table_space}
 use Rattle.tdb_overlay.specs.Log.{end_of}
 use Rattle.tdb_chunk.specs.LaidOut.{LaidOut, in_pieces}
@@ -21,20 +19,6 @@ use Rattle.tdb_chunk.specs.Text.{next_commit}
 -- a store in suite plain
 abbrev pub plain_store : List ℕ → ℕ → Store
 plain_store secret segments = record { secret = secret; suite = Plain; segments = segments }
-
--- the start of the first segment
-abbrev pub first_place : Place
-first_place = record { 0 = segment_start 0 }
-
--- The state of a store that was formatted: its table, of 528 bytes, is sealed at the start of the first segment, and that
--- segment alone is used.
-abbrev pub formatted_state : Store → StoreState
-formatted_state store = record {
-  count = 1;
-  base = 1;
-  space = with_bytes (fresh_space store.segments) first_place (record_length store.suite 528);
-  chunks = no_partitions;
-}
 
 -- From no text to the first checkpoint, which is no commit.
 abbrev pub Formatted : Store → Commits

@@ -4,11 +4,12 @@ ghost use Rattle.tdb_append.specs.Placed.{placed};
 ghost use Rattle.tdb_base.specs.Rose.{Rose};
 ghost use Rattle.tdb_mark.specs.declared.commit.Commit.{Commit};
 ghost use Rattle.tdb_seg.specs.SegmentSpace.{fresh_space, with_bytes};
+ghost use Rattle.tdb_overlay.specs.StoreState.{first_place, formatted_state};
 ghost use Rattle.tdb_overlay.specs.Growth.{Added, IsSettled};
 ghost use Rattle.tdb_overlay.specs.Intact.{StaysIntact};
 ghost use Rattle.tdb_overlay.specs.SealedOnly.{OnlySealed};
 ghost use Rattle.tdb_chunk.specs.declared.format.StoreError.TheVariants.{Fault, Memory};
-ghost use Rattle.tdb_chunk.specs.Formatting.{Formatted, IsStart, first_place, formatted_state, plain_store};
+ghost use Rattle.tdb_chunk.specs.Formatting.{Formatted, IsStart, plain_store};
 ghost use Rattle.tdb_chunk.specs.Text.{next_commit};
 ghost use Rattle.tdb_chunk.specs.Known.{IsAtHead, Knows, store_of};
 

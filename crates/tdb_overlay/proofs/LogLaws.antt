@@ -87,10 +87,11 @@ module _ (f g : Finds) (finer : Finer f g) where
     checkpoint_stays before c after is = record {
       kind = is.kind;
       next = is.next;
+      first = is.first;
       root = is.root;
-      none = is.none;
       table = table_stays store.secret c is.table;
       after_is = is.after_is;
+      formatted = is.formatted;
     }
 
     adds_stays : (before : StoreState) (c : Commit) (added : History) (after : StoreState) → Adds f store before c added after → Adds g store before c added after

@@ -12,12 +12,12 @@ use Rattle.tdb_mark.specs.CommitText.{commit_key_of, commit_of}
 use Rattle.tdb_model.specs.declared.change.Change.{Change}
 use Rattle.tdb_model.specs.declared.change.Change.TheVariants.{Write, Free, Make, Copy, Drop}
 use Rattle.tdb_model.specs.Apply.{History, apply}
-use Rattle.tdb_model.specs.State.{State, Partition, no_partitions}
+use Rattle.tdb_model.specs.State.{State, Partition}
 use Rattle.tdb_platform.specs.Outside.{Anchor}
 use Rattle.tdb_seg.specs.TableSpace.{table_space}
 use Rattle.tdb_overlay.specs.Changes.{HasChanges, HasTable, named_records}
 use Rattle.tdb_overlay.specs.Found.{Finds, Store, in_trace}
-use Rattle.tdb_overlay.specs.StoreState.{StoreState, commit_fits, commit_on, first_state}
+use Rattle.tdb_overlay.specs.StoreState.{StoreState, commit_fits, commit_on, first_state, formatted_state}
 
 -- An entry says the suite, the home and the birth of its partition, which is there.
 pub record IsOfPartition (e : Entry) (found : Option Partition) : Type 0 where
@@ -56,15 +56,16 @@ pub record IsCommitOn (finds : Finds) (store : Store) (before : StoreState) (c :
   pub owned : AreOwned c.count before.chunks list.entries changes
   pub placed : commit_fits store before changes ≡ Ok (map (λ piece. piece.place) (named_records list.entries ++ c.first ∷ []), after.space)
 
--- The text of a checkpoint keeps the state. For now it names no map of partitions, so it stands only where there is no
--- partition.
+-- The text of a checkpoint. For now one stands only at the start of a log: it names no map of partitions, and its table, the
+-- first piece of all, has its own segment alone as used.
 pub record IsCheckpointOn (finds : Finds) (store : Store) (before : StoreState) (c : Commit) (after : StoreState) : Type 0 where
   pub kind : c.kind ≡ 2
   pub next : c.count ≡ before.count + 1
+  pub first : before ≡ first_state store
   pub root : c.root ≡ None
-  pub none : before.chunks ≡ no_partitions
   pub table : HasTable finds store.secret c
   pub after_is : after ≡ record { count = c.count; base = c.count; space = table_space table.table (end_of c.first); chunks = before.chunks }
+  pub formatted : after ≡ formatted_state store
 
 -- what a text adds to the history: a checkpoint nothing, a commit its count and its changes
 abbrev pub Adds : Finds → Store → StoreState → Commit → History → StoreState → Type 0

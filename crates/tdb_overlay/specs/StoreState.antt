@@ -13,7 +13,7 @@ use Rattle.tdb_model.specs.declared.error.CommitError.TheVariants.{RingFull, Cou
 use Rattle.tdb_model.specs.Apply.{apply, apply_all}
 use Rattle.tdb_model.specs.Check.{check_commit}
 use Rattle.tdb_model.specs.State.{State, Partition, no_partitions}
-use Rattle.tdb_seg.specs.SegmentSpace.{SegmentSpace, fits, fresh_space}
+use Rattle.tdb_seg.specs.SegmentSpace.{SegmentSpace, fits, fresh_space, segment_start, with_bytes}
 use Rattle.tdb_overlay.specs.Found.{Store}
 
 -- What the texts of a log have come to: the count of the last, and that of the last checkpoint, the segments, and the state.
@@ -32,6 +32,20 @@ abbrev pub record_length : Suite → ℕ → ℕ
 record_length Plain n = 48 + n
 record_length Aes128 n = 48 + 16 * (n / 16 + 1)
 record_length Aes256 n = 48 + 16 * (n / 16 + 1)
+
+-- the start of the first segment
+abbrev pub first_place : Place
+first_place = record { 0 = segment_start 0 }
+
+-- The state of a store that was formatted: its table, of 528 bytes, is sealed at the start of the first segment, and that
+-- segment alone is used.
+abbrev pub formatted_state : Store → StoreState
+formatted_state store = record {
+  count = 1;
+  base = 1;
+  space = with_bytes (fresh_space store.segments) first_place (record_length store.suite 528);
+  chunks = no_partitions;
+}
 
 -- the suite of a partition, where it is there
 abbrev pub suite_in : Suite → Option Partition → Suite

@@ -89,7 +89,7 @@ module _ (written : List WrittenPiece) (trace : Trace) (secret : List ℕ) (log 
   pub starts : (step : BaseStep written log base later) (r : Recovered) → r.segments ≡ table_space step.checkpoint.table.table (end_of base.first) → r.overlay ≡ no_covers → IsRest written log later r
   starts step r segments overlay =
       let after : step.after.space ≡ table_space step.checkpoint.table.table (end_of base.first) = ap (λ (s : StoreState). s.space) step.checkpoint.after_is in
-      let none : step.after.chunks ≡ _ = ap (λ (s : StoreState). s.chunks) step.checkpoint.after_is ∙ step.checkpoint.none in
+      let none : step.after.chunks ≡ _ = ap (λ (s : StoreState). s.chunks) step.checkpoint.after_is ∙ ap (λ (s : StoreState). s.chunks) step.checkpoint.first in
       record {
         state = step.after;
         history = step.history;

@@ -10,14 +10,14 @@ use Rattle.tdb_model.specs.Opening.{opening_changes}
 use Rattle.tdb_platform.specs.Outside.{Anchor, Outside}
 use Rattle.tdb_platform.specs.CrashStates.{CrashStates, now}
 use Rattle.tdb_platform.proofs.Moments.{goes_on_by, started}
-use Rattle.tdb_chunk.specs.Formatting.{Formatted, formatted_state}
+use Rattle.tdb_chunk.specs.Formatting.{Formatted}
 use Rattle.tdb_chunk.specs.Known.{Knows}
 use Rattle.tdb_chunk.specs.declared.store.Store as memory
 use Rattle.tdb_overlay.specs.Found.{Store}
 use Rattle.tdb_overlay.specs.Growth.{Added, HasGrownBy, IsSettled, OrNothing, UnlessErr}
 use Rattle.tdb_overlay.specs.Intact.{StaysIntact}
 use Rattle.tdb_overlay.specs.Log.{IsLog}
-use Rattle.tdb_overlay.specs.StoreState.{StoreState, commit_on}
+use Rattle.tdb_overlay.specs.StoreState.{StoreState, commit_on, formatted_state}
 use Rattle.tdb_run.specs.Begin.{HasBoth, HasNone, IsExplainedStop, IsNewStore, IsReopened, refusal_of}
 use Rattle.tdb_run.specs.LineResult.{HasAllOf, HasPartOf}
 use Rattle.tdb_run.specs.Making.{HasMade, HasNotMade, IsStopOfMaking}

@@ -7,9 +7,9 @@ use Rattle.tdb_model.specs.Opening.{opening_changes}
 use Rattle.tdb_model.specs.State.{no_partitions}
 use Rattle.tdb_seg.specs.SegmentSpace.{fits, place_in, then_fit, with_bytes}
 use Rattle.tdb_seg.proofs.Placing.{next-at_tail, place-placed}
-use Rattle.tdb_chunk.specs.Formatting.{formatted_state, plain_store}
+use Rattle.tdb_chunk.specs.Formatting.{plain_store}
 use Rattle.tdb_overlay.specs.Found.{Store}
-use Rattle.tdb_overlay.specs.StoreState.{StoreState, commit_fits, commit_on, committed, where_passed, where_placed}
+use Rattle.tdb_overlay.specs.StoreState.{StoreState, commit_fits, commit_on, committed, formatted_state, where_passed, where_placed}
 
 module _ (secret : List ℕ) (segments : ℕ) where
   abbrev store : Store

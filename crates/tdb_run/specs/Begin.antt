@@ -11,13 +11,12 @@ use Rattle.tdb_model.specs.Opening.{opening_changes}
 use Rattle.tdb_model.specs.State.{State, Partition}
 use Rattle.tdb_platform.specs.Outside.{Anchor, Outside}
 use Rattle.tdb_platform.specs.CrashStates.{CrashStates, LeavesNothing, Settles, now}
-use Rattle.tdb_chunk.specs.Formatting.{formatted_state}
 use Rattle.tdb_chunk.specs.Known.{Knows}
 use Rattle.tdb_chunk.specs.declared.store.Store as memory
 use Rattle.tdb_overlay.specs.Found.{Store}
 use Rattle.tdb_overlay.specs.Log.{IsLog}
 use Rattle.tdb_overlay.specs.Required.{IsOpeningPiece}
-use Rattle.tdb_overlay.specs.StoreState.{StoreState, commit_on}
+use Rattle.tdb_overlay.specs.StoreState.{StoreState, commit_on, formatted_state}
 use Rattle.tdb_recover.specs.Damaged.{IsDamageOf}
 use Rattle.tdb_run.specs.LineResult.{HasAllOf, HasPartOf}
 use Rattle.tdb_run.specs.NotesCommit.{commit_after}

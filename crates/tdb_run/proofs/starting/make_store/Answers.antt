@@ -4,13 +4,13 @@ use Rattle.tdb_mark.specs.CommitText.{commit_key_of, commit_of}
 use Rattle.tdb_mark.proofs.UnforgedLemmas.{IsUnforged-before}
 use Rattle.tdb_model.specs.Opening.{opening_changes}
 use Rattle.tdb_model.specs.State.{no_partitions}
-use Rattle.tdb_chunk.specs.Formatting.{formatted_state, plain_store}
+use Rattle.tdb_chunk.specs.Formatting.{plain_store}
 use Rattle.tdb_chunk.specs.Known.{store_of}
 use Rattle.tdb_chunk.proofs.Writing.{makes_check}
 use Rattle.tdb_overlay.specs.Found.{Store}
 use Rattle.tdb_overlay.specs.Needed.{needed}
 use Rattle.tdb_overlay.specs.Intact.{StaysIntact}
-use Rattle.tdb_overlay.specs.StoreState.{commit_on}
+use Rattle.tdb_overlay.specs.StoreState.{commit_on, formatted_state}
 use Rattle.tdb_run.specs.Begin.{refusal_of}
 use Rattle.tdb_run.specs.NotesCommit.{IsCommitted, MayBeCommitted}
 use Rattle.tdb_run.specs.ScriptServed.{OverLog, ScriptWhole}
