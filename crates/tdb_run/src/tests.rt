@@ -292,6 +292,23 @@ fn a_long_line_is_answered_once_and_nothing_is_lost(rt: HostRuntime) -> Result<(
 }
 
 #[test]
+fn a_reply_is_put_before_more_is_taken(rt: HostRuntime) -> Result<(), Fail> {
+    let alloc = rt.alloc();
+    // One take gives at most 65,536 bytes: the first line, and a part of the second.
+    let mut script = b"begin 1\n".as_slice().to_vec(alloc)?;
+    script.resize(100_000, b'x')?;
+    let words = ["start", "plain", "16"];
+    let (second, first) = ([2], [1]);
+    let failing = [&[], second.as_slice(), first.as_slice()];
+    let end = run_over_memory(alloc, &words, &script, failing)?;
+    assert_eq!(rt; end.status, Status::SinkFault);
+    let end = run_over_memory(alloc, &words, &script, [&[], second.as_slice(), &[]])?;
+    assert_eq!(rt; end.status, Status::SourceFault);
+    assert!(rt; end.sink.bytes() == b"begun 1\nsource fault\n".as_slice());
+    Ok(())
+}
+
+#[test]
 fn a_store_is_not_made_twice(rt: HostRuntime) -> Result<(), Fail> {
     let already = Status::AnchorCount { formatted: true };
     for command in ["start", "format"] {
