@@ -7,27 +7,13 @@ use Rattle.tdb_overlay.specs.Found.{Store}
 use Rattle.tdb_run.specs.Begin.{IsEarlyStop}
 use Rattle.tdb_run.specs.OneLine.{Keeps}
 use Rattle.tdb_run.specs.Opened.{GoesOn}
-use Rattle.tdb_run.specs.Replies.{Conversation, HasAnswered, HasCut}
+use Rattle.tdb_run.specs.Replies.{HasAnswered, HasCut}
 use Rattle.tdb_run.specs.Run.{IsStopWithoutScript}
 use Rattle.tdb_run.specs.Served.{HasHeld, IsAtOnce, IsCaused, Served}
 use Rattle.tdb_run.specs.declared.status.Success.TheVariants.{Script, Formatted}
 use Rattle.tdb_run.specs.declared.status.Status.{Status}
 use Rattle.tdb_run.specs.declared.status.Status.TheVariants.{Done, Usage, AnchorCount, Damaged, PlatformFault, SourceFault, SinkFault, Memory, End, Refused}
-
--- nothing was taken
-abbrev pub no_conversation : (came : SourceContent) → Conversation came came
-no_conversation came = record {
-  taken = [];
-  lines = [];
-  unanswered = [];
-  replies = [];
-  next = None;
-  gave = λ told. refl;
-  limit = omega arith;
-  split = refl;
-  each = λ k d within. absurd (omega (arith, within));
-  one_each = refl;
-}
+use Rattle.tdb_run.proofs.Conversing.{no_conversation}
 
 module _ (came : SourceContent) where
   pub answered_none : (status : Status) → IsAtOnce status → HasAnswered (no_conversation came) status

@@ -16,17 +16,8 @@ use Rattle.tdb_run.specs.declared.script_lines.ScriptLines.{ScriptLines}
 use Rattle.tdb_run.specs.declared.status.Success.TheVariants.{Script}
 use Rattle.tdb_run.specs.declared.status.Status.{Status}
 use Rattle.tdb_run.specs.declared.status.Status.TheVariants.{Done, Memory}
-use Rattle.tdb_run.proofs.Conversing.{Conversing, answered_line, held_more, left_unanswered, no_conversation, unanswered_line}
+use Rattle.tdb_run.proofs.Conversing.{Conversing, answered_line, held_more, left_unanswered, unanswered_line}
 use Rattle.tdb_run.proofs.Stops.{left_cases, line_cases, put_cases}
-
--- nothing was taken, for want of memory
-abbrev pub served_none : (came : SourceContent) (before : SinkContent) → Served came came before before Memory
-served_none came before = record {
-  conversation = no_conversation came;
-  answered = (λ k d h. absurd (omega (arith, h)), inl refl);
-  cut = tt;
-  held = λ told. sym (append-nil before.held);
-}
 
 module _ (came now later : SourceContent) (same : now.tells ≡ came.tells) (before after : SinkContent) (still : after.tells ≡ before.tells) (lines next : ScriptLines) (s : Conversing came now before after lines) where
   -- no further line is answered

@@ -5,7 +5,8 @@ use Rattle.tdb_run.specs.Command.{IsFormat, IsRun, IsStart, texts}
 use Rattle.tdb_run.specs.CommandValue.{IsCommandOf}
 use Rattle.tdb_run.specs.Run.{RunOver}
 use Rattle.tdb_run.specs.declared.status.Status.TheVariants.{Usage}
-use Rattle.tdb_run.proofs.Early.{no_conversation, served_none, stop_at_once}
+use Rattle.tdb_run.proofs.Conversing.{no_conversation}
+use Rattle.tdb_run.proofs.Early.{served_none, stop_at_once}
 use Rattle.tdb_run.proofs.Words.{format_not_run, one_format, one_start, start_not_format, start_not_run}
 use Rattle.tdb_run.proofs.running.outcome.Goals as goal
 

@@ -3,7 +3,8 @@ use Rattle.tdb_chunk.specs.Formatting.{plain_store}
 use Rattle.tdb_chunk.specs.Known.{store_of}
 use Rattle.tdb_overlay.specs.SealedOnly.{OnlySealed}
 use Rattle.tdb_run.specs.Begin.{IsReopened}
-use Rattle.tdb_run.proofs.Early.{keeps_platform, no_conversation, served_none, stop_at_once, stop_without_script}
+use Rattle.tdb_run.proofs.Conversing.{no_conversation}
+use Rattle.tdb_run.proofs.Early.{keeps_platform, served_none, stop_at_once, stop_without_script}
 use Rattle.tdb_run.proofs.Over.{caused_since, keeps_since, ran_over, whole_over}
 use Rattle.tdb_run.proofs.Partitions.{reopened_by_run}
 use Rattle.tdb_run.proofs.RunRan.{ran_early}

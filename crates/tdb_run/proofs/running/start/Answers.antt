@@ -4,7 +4,8 @@ use Rattle.tdb_chunk.specs.Known.{store_of}
 use Rattle.tdb_overlay.specs.Found.{Store}
 use Rattle.tdb_overlay.specs.SealedOnly.{OnlySealed}
 use Rattle.tdb_run.specs.Begin.{IsNewStore}
-use Rattle.tdb_run.proofs.Early.{no_conversation, served_none, stop_at_once, stop_without_script}
+use Rattle.tdb_run.proofs.Conversing.{no_conversation}
+use Rattle.tdb_run.proofs.Early.{served_none, stop_at_once, stop_without_script}
 use Rattle.tdb_run.proofs.Over.{ran_over, whole_over}
 use Rattle.tdb_run.proofs.Partitions.{new_by_run}
 use Rattle.tdb_run.proofs.RunRan.{ran_early}
