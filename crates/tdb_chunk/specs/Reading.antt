@@ -43,6 +43,10 @@ pub record IsDamagedChunk (old new : Outside) (s : memory.Store) (last : StoreSt
   pub read : HasRead old new
   pub shown : IsDamaged read.more piece damage.found.0
 
+-- A piece was read, once and whole, and nothing else was.
+abbrev pub HasReadWhole : Piece → Outside → Outside → Type 0
+HasReadWhole piece old new = (bytes : List ℕ) × (new.trace ≡ with_read old.trace piece.place.0 piece.length bytes)
+
 -- A piece that the log of the anchor needs was read, once and whole, and nothing else was.
 pub record HasReadPiece (old new : Outside) (s : memory.Store) : Type 0 where
   pub piece : Piece

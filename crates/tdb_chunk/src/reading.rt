@@ -2,7 +2,6 @@
 ghost use Rattle.std.specs.Prelude.{◌≡◌, ◌≢◌, ◌↔◌, ◌⊎◌, ℕ, List, Err, IfErr, IfOk, IsTrue, None, Some};
 ghost use Rattle.std.specs.FinMap as map;
 ghost use Rattle.tdb_base.specs.Rose.{Rose};
-ghost use Rattle.tdb_base.specs.Trace.{with_read};
 ghost use Rattle.tdb_base.specs.declared.piece.Damage.{Damage};
 ghost use Rattle.tdb_base.specs.declared.piece.Place.{Place};
 ghost use Rattle.tdb_mark.specs.CommitText.{commit_key_of, commit_of};
@@ -16,7 +15,7 @@ ghost use Rattle.tdb_overlay.specs.Keys.{partition_key};
 ghost use Rattle.tdb_overlay.specs.Reading.{OnlyReads};
 ghost use Rattle.tdb_overlay.specs.StoreState.{StoreState};
 ghost use Rattle.tdb_chunk.specs.Known.{Knows};
-ghost use Rattle.tdb_chunk.specs.Reading.{HasReadPiece, IsDamageOf, IsDamagedChunk, IsLate, name_of};
+ghost use Rattle.tdb_chunk.specs.Reading.{HasReadPiece, HasReadWhole, IsDamageOf, IsDamagedChunk, IsLate, name_of};
 
 use crate::store::Store;
 use std::alloc::Global;
@@ -47,6 +46,12 @@ impl Store {
         // it takes one read, and none where there is no chunk
         ensures once { IsTrue (P.outside platform.old).tells → (last : StoreState) → Knows (P.outside platform.old) self.now last
             → IfOk result (λ bytes. HasReadPiece (P.outside platform.old) (P.outside platform.new) self.now) }
+        // so does damage, a fault has none in the trace, and no error more than one
+        ensures damaged_once { (damage : Damage) → result ≡ Err (answers.Tampered damage) → IsTrue (P.outside platform.old).tells → (last : StoreState) → Knows (P.outside platform.old) self.now last
+            → HasReadPiece (P.outside platform.old) (P.outside platform.new) self.now }
+        ensures failed { result ≡ Err answers.Fault → IsTrue (P.outside platform.old).tells → (P.outside platform.new).trace ≡ (P.outside platform.old).trace }
+        ensures at_most_once { IsTrue (P.outside platform.old).tells → (last : StoreState) → Knows (P.outside platform.old) self.now last
+            → IfErr result (λ error. ((P.outside platform.new).trace ≡ (P.outside platform.old).trace) ⊎ HasReadPiece (P.outside platform.old) (P.outside platform.new) self.now) }
         ensures unread { (result ≡ Err answers.NoPartition) ⊎ (result ≡ Err answers.NoChunk) → platform.new ≡ platform.old }
         // what has its digest is a record
         ensures form { IsTrue (P.outside platform.old).tells → IsUnforged (P.outside platform.new).trace (commit_of (commit_key_of self.now.keys)) → (last : StoreState) → Knows (P.outside platform.old) self.now last
@@ -84,7 +89,11 @@ impl Store {
         ensures tampered { (damage : Damage) → result ≡ Err (answers.Tampered damage) → IsDamageOf piece.now (P.outside platform.old) (P.outside platform.new) damage }
         ensures fault { result ≡ Err answers.Fault → Rose (P.outside platform.old).faults (P.outside platform.new).faults }
         ensures once { IsTrue (P.outside platform.old).tells
-            → IfOk result (λ bytes. (sealed : List ℕ) × ((P.outside platform.new).trace ≡ with_read (P.outside platform.old).trace piece.now.place.0 piece.now.length sealed)) }
+            → IfOk result (λ bytes. HasReadWhole piece.now (P.outside platform.old) (P.outside platform.new)) }
+        ensures damaged_once { (damage : Damage) → result ≡ Err (answers.Tampered damage) → IsTrue (P.outside platform.old).tells → HasReadWhole piece.now (P.outside platform.old) (P.outside platform.new) }
+        ensures failed { result ≡ Err answers.Fault → IsTrue (P.outside platform.old).tells → (P.outside platform.new).trace ≡ (P.outside platform.old).trace }
+        ensures at_most_once { IsTrue (P.outside platform.old).tells
+            → IfErr result (λ error. ((P.outside platform.new).trace ≡ (P.outside platform.old).trace) ⊎ HasReadWhole piece.now (P.outside platform.old) (P.outside platform.new)) }
         ensures late { IfErr result IsLate }
     {
         let bytes = match fetch(alloc, platform, piece) {

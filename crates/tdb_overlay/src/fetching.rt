@@ -41,6 +41,8 @@ pub fn fetch<P: Platform>(
     ensures tampered { (damage : Damage) → result ≡ Err (FetchError.Tampered damage) → (damage.place ≡ piece.now.place) × (damage.expected ≡ piece.now.digest)
         × (IsTrue (P.outside platform.old).tells → (bytes : List ℕ) × ((P.outside platform.new).trace ≡ with_read (P.outside platform.old).trace piece.now.place.0 piece.now.length bytes) × (sha256 bytes ≡ damage.found.0) × (damage.found ≢ piece.now.digest)) }
     ensures fault { result ≡ Err FetchError.Fault → Rose (P.outside platform.old).faults (P.outside platform.new).faults }
+    // what failed is in no trace
+    ensures failed { result ≡ Err FetchError.Fault → IsTrue (P.outside platform.old).tells → (P.outside platform.new).trace ≡ (P.outside platform.old).trace }
     ensures unread { result ≡ Err FetchError.Memory → platform.new ≡ platform.old }
     ensures settled { IsSettled P.outside P.crash_states platform.old → IsSettled P.outside P.crash_states platform.new }
 {

@@ -23,6 +23,7 @@ use Rattle.tdb_run.specs.SessionState.{IsSessionAt, transaction_in}
 use Rattle.tdb_run.specs.declared.session.Session as session
 use Rattle.tdb_run.specs.declared.status.Status.{Status}
 use Rattle.tdb_chunk.specs.declared.store.Store as memory
+use Rattle.tdb_run.proofs.ReadingLines.{none_at_end}
 use Rattle.tdb_run.proofs.Conversing.{no_conversation}
 use Rattle.tdb_run.proofs.Ran.{none_at_any}
 use Rattle.tdb_run.proofs.SoFar.{Counts, leaves_no_part}
@@ -60,7 +61,7 @@ ran_none outside crash_states counts store came p history from status told settl
       goes_on = extends_itself (outside p).trace;
       replies = refl;
       maybe = [];
-      of_next = inl (refl, refl);
+      of_next = inl (refl, refl, none_at_end status (outside p) (outside p) refl);
       none_at_done = none_at_any status;
       log = whole;
       left = λ i a left. subst (λ (b : Anchor). HasAllOf (outside p).trace.written store history [] [] b) (sym (settled told i a left)) whole;

@@ -10,12 +10,14 @@ use Rattle.tdb_script.specs.declared.reply.Reply.{Reply}
 use Rattle.tdb_script.specs.declared.reply.Reply.TheVariants.{Committed, RefusedNoTransaction}
 use Rattle.tdb_overlay.specs.Found.{Store}
 use Rattle.tdb_overlay.specs.StoreState.{StoreState, commit_on}
+use Rattle.tdb_run.specs.LineReads.{ReadsAtEnd}
 use Rattle.tdb_run.specs.LineResult.{AnsweredBy, StoppedBy}
 use Rattle.tdb_run.specs.NotesCommit.{IsCommitted, IsRefused, MayBeCommitted}
 use Rattle.tdb_run.specs.Script as script
 use Rattle.tdb_run.specs.Script.{Answer, ScriptState, changes_of, closed, commit_answer, in_transaction, refusal_reply, replied, tried, tx}
 use Rattle.tdb_run.specs.SessionState.{IsPureAnswer, IsSessionAt, notes_of, numbered, transaction_in, transaction_of}
 use Rattle.tdb_run.specs.declared.session.Session.{Session}
+use Rattle.tdb_run.specs.declared.status.Status.{Status}
 use Rattle.tdb_chunk.specs.declared.store.Store as chunk
 use Rattle.tdb_run.specs.declared.transaction.Transaction.{Transaction}
 use Rattle.tdb_run.proofs.Transactions.{answered_in, numbered_some, refused_in}
@@ -71,9 +73,11 @@ module _ (store : Store) (session : Session) (number : TxId) (open' : Transactio
       }
 
       -- it may have been made
-      pub stopped_line : MayBeCommitted outside crash_states store old new history state.store changes → StoppedBy outside crash_states store old new history (IsCommitAnswer store state number)
-      stopped_line is = record {
+      pub stopped_line : (status : Status) → ReadsAtEnd status (outside old) (outside new) → MayBeCommitted outside crash_states store old new history state.store changes
+          → StoppedBy outside crash_states store old new history (IsCommitAnswer store state number) status
+      stopped_line status ends is = record {
         maybe = is.maybe;
+        reads = ends;
         of_line = ⊎_elim (λ none. inl none) (λ made. inr (tried state (transaction_of open') changes (Ok made.0), tried_is (Ok made.0) made.1, made.2)) is.of_changes;
         log = is.log;
         left = is.left;

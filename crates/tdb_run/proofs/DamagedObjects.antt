@@ -1,11 +1,17 @@
--- A read that found damage: it is damage to the record of the object that was asked for.
+-- A read of a record: the one piece that it read, and the damage that it found to the object that was asked for.
 use Rattle.tdb_base.specs.declared.piece.Damage.{Damage}
 use Rattle.tdb_platform.specs.Outside.{Outside}
 use Rattle.tdb_overlay.specs.StoreState.{StoreState}
 use Rattle.tdb_chunk.specs.Known.{store_of}
-use Rattle.tdb_chunk.specs.Reading.{IsDamagedChunk}
+use Rattle.tdb_chunk.specs.Reading.{HasReadPiece, IsDamagedChunk}
 use Rattle.tdb_chunk.specs.declared.store.Store as chunk
-use Rattle.std.specs.Prelude.{ℕ}
+use Rattle.std.proofs.Common.{◌≡◌, ◌⊎◌, ◌+◌, ⊎_elim, inl, inr, ℕ, Some, true, false, ◌∙◌, ap}
+use Rattle.std.specs.FinMap.{get}
+use Rattle.std.specs.Option.{option_and_then}
+use Rattle.tdb_base.specs.Trace.{Trace, calls_in}
+use Rattle.tdb_model.specs.Lookup.{chunk_at}
+use Rattle.tdb_model.specs.State.{Partition}
+use Rattle.tdb_run.specs.LineReads.{HasReadFor}
 use Rattle.tdb_run.specs.Session.{IsDamagedObject}
 
 pub damaged_object : (kept : chunk.Store) (old new : Outside) (last : StoreState) (id : ℕ) (damage : Damage) → IsDamagedChunk old new kept last 1 id damage → IsDamagedObject (store_of kept) old new last.chunks id
@@ -21,3 +27,14 @@ damaged_object kept old new last id damage is = record {
   found = damage.found.0;
   damaged = is.shown;
 }
+
+-- what was damaged is there
+pub damaged_is_there : (kept : chunk.Store) (old new : Outside) (last : StoreState) (id : ℕ) (damage : Damage) (is : IsDamagedChunk old new kept last 1 id damage) → chunk_at last.chunks 1 id ≡ Some is.chunk
+damaged_is_there kept old new last id damage is = ap (option_and_then (λ (p : Partition). get p.chunks id)) is.is_there ∙ is.has
+
+pub one_read : (kept : chunk.Store) (old new : Outside) → HasReadPiece old new kept → HasReadFor true old new
+one_read kept old new is = (record { bytes = is.bytes; place = is.piece.place.0; call = calls_in old.trace + 1; asked = is.piece.length }, ap (λ (t : Trace). t.read) is.read)
+
+-- one piece was read, or none
+pub at_most_one : (kept : chunk.Store) (old new : Outside) → (new.trace ≡ old.trace) ⊎ HasReadPiece old new kept → HasReadFor false old new ⊎ HasReadFor true old new
+at_most_one kept old new is = ⊎_elim (λ none. inl (ap (λ (t : Trace). t.read) none)) (λ one. inr (one_read kept old new one)) is

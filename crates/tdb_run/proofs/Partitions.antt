@@ -23,6 +23,7 @@ use Rattle.tdb_run.specs.Begin.{HasBoth, HasUserPartitions, IsMadePlain, IsNewSt
 use Rattle.tdb_run.specs.Script.{Answer, IsAnswer, IsGetAnswer, ScriptState, Transaction, abort_answer, begin_answer, changes_of, commit_answer, in_transaction, new_answer, tried, write_of}
 use Rattle.tdb_run.specs.Served.{IsOfNext}
 use Rattle.tdb_run.specs.Session.{AnswersBetween, Session, added_by}
+use Rattle.tdb_run.specs.declared.status.Status.{Status}
 
 -- the changes of a commit of a run: it makes the partitions, or writes notes
 abbrev pub IsOfRun : List Change → Type 0
@@ -138,7 +139,7 @@ answer_of_run store damaged state (commit_line number) given is =
     subst AddsOfRun (sym is) (inside_of_run state number (λ t. commit_answer store state t (changes_of t.notes)) state.transaction (λ t. commit_of_run store state t t.notes))
 
 between_of_run : (store : Store) (old new : Outside) (state : ScriptState) (line : List ℕ) (given : Answer) → AnswersBetween store old new state line given → AddsOfRun given
-between_of_run store old new state line given is = ⊎_elim (λ some. answer_of_run store _ state some.0 given some.2) (λ none. subst AddsOfRun (sym none.1) tt) is
+between_of_run store old new state line given is = ⊎_elim (λ some. answer_of_run store _ state some.0 given some.2.0) (λ none. subst AddsOfRun (sym none.1) tt) is
 
 -- the commits of a session, and what may stand behind them
 pub session_of_run : (store : Store) (begun : Outside) (history : History) (first : ScriptState) (lines : List (List ℕ)) (answers : List Answer) (now : Outside) (last : ScriptState)
@@ -149,6 +150,6 @@ session_of_run store begun history first (line ∷ lines) (given ∷ answers) no
 session_of_run store begun history first [] (given ∷ answers) now last is = absurd is
 session_of_run store begun history first (line ∷ lines) [] now last is = absurd is
 
-pub next_of_run : (store : Store) (old new : Outside) (last : ScriptState) (unanswered : List ℕ) (next : Option Reply) (maybe : History) → IsOfNext store old new last unanswered next maybe → AreOfRun maybe
-next_of_run store old new last unanswered next maybe is =
+pub next_of_run : (store : Store) (old new : Outside) (status : Status) (last : ScriptState) (unanswered : List ℕ) (next : Option Reply) (maybe : History) → IsOfNext store old new status last unanswered next maybe → AreOfRun maybe
+next_of_run store old new status last unanswered next maybe is =
     ⊎_elim (λ none. subst AreOfRun (sym none.1) tt) (λ some. subst AreOfRun (sym some.6) (between_of_run store old new last some.0 some.2 some.5)) is

@@ -15,6 +15,7 @@ use Rattle.tdb_overlay.specs.SealedOnly.{OnlySealed}
 use Rattle.tdb_overlay.specs.StoreState.{StoreState}
 use Rattle.tdb_overlay.proofs.ReadingLaws.{reads_nothing, reads_settled}
 use Rattle.tdb_chunk.specs.Known.{IsStoreAt, Knows, store_of}
+use Rattle.tdb_run.specs.LineReads.{ReadsAtEnd}
 use Rattle.tdb_run.specs.LineResult.{AnsweredBy, HasAllOf, HasPartOf, Premised, StaysWhole, StoppedBy}
 use Rattle.tdb_model.specs.declared.change.Change.{Change}
 use Rattle.tdb_run.specs.NotesCommit.{MayBeCommitted}
@@ -23,11 +24,26 @@ use Rattle.tdb_run.specs.Script.{Answer, ScriptState}
 use Rattle.tdb_run.specs.ScriptServed.{ScriptWhole}
 use Rattle.tdb_run.specs.SessionState.{IsPureAnswer}
 use Rattle.tdb_run.specs.declared.session.Session as session
+use Rattle.tdb_run.specs.declared.status.Status.{Status}
+use Rattle.tdb_run.specs.declared.status.Status.TheVariants.{Done, Usage, AnchorCount, Damaged, PlatformFault, SourceFault, SinkFault, Memory, End, Refused}
 use Rattle.tdb_chunk.specs.declared.store.Store as chunk
 
 -- what was written is the same
 sealed_none : (secret : List ℕ) (old new : Outside) → (IsTrue old.tells → new.trace.written ≡ old.trace.written) → OnlySealed secret old new
 sealed_none secret old new same told = record { more = []; written = same told ∙ sym (append-nil old.trace.written); each = λ k d within. absurd (omega (arith, within)) }
+
+-- where nothing was read
+pub none_at_end : (status : Status) (old new : Outside) → new.trace.read ≡ old.trace.read → ReadsAtEnd status old new
+none_at_end Memory old new none = inl none
+none_at_end (Done success) old new none = none
+none_at_end Usage old new none = none
+none_at_end (AnchorCount formatted) old new none = none
+none_at_end (Damaged finding) old new none = none
+none_at_end PlatformFault old new none = none
+none_at_end SourceFault old new none = none
+none_at_end SinkFault old new none = none
+none_at_end End old new none = none
+none_at_end (Refused refusal) old new none = none
 
 -- A store knows a state as long as the trace of writes and the anchor stay.
 pub knows_still : (o n : Outside) (kept : chunk.Store) (last : StoreState) → n.trace.written ≡ o.trace.written → n.anchor ≡ o.anchor → Knows o kept last → Knows n kept last
@@ -112,10 +128,11 @@ module _ {D : Type 0} (outside : D → Outside) (crash_states : D → CrashState
     not_committed changes = record { maybe = []; of_changes = inl refl; log = all_of; left = left_now; any_moment = part_left [] }
 
     -- a line that isn't answered
-    pub stopped_reading : (is_answer : Answer → Type 0) → StoppedBy outside crash_states store old new history is_answer
-    stopped_reading is_answer = record {
+    pub stopped_reading : (is_answer : Answer → Type 0) (status : Status) → ReadsAtEnd status (outside old) (outside new) → StoppedBy outside crash_states store old new history is_answer status
+    stopped_reading is_answer status ends = record {
       maybe = [];
       of_line = inl refl;
+      reads = ends;
       log = all_of;
       left = left_now;
       any_moment = part_left [];
@@ -130,10 +147,11 @@ module _ {D : Type 0} (outside : D → Outside) (crash_states : D → CrashState
       let given = pure told sound history state log at in
       answered_reading store old new reads told settled history state.store log state (is_answer state) given.0 reply kept next refl given.1 given.2 at.store
 
-  pub stopped_pure : (store : Store) (old new : D) (kept : chunk.Store) (made : session.Session) (is_answer : ScriptState → Answer → Type 0)
-      → OnlyReads outside crash_states old new → IsSettled outside crash_states old
-      → Premised outside old new store kept made (λ history state. StoppedBy outside crash_states store old new history (is_answer state))
-  stopped_pure store old new kept made is_answer reads settled told sound history state log at = stopped_reading store old new reads told settled history state.store log (is_answer state)
+  pub stopped_pure : (store : Store) (old new : D) (kept : chunk.Store) (made : session.Session) (is_answer : ScriptState → Answer → Type 0) (status : Status)
+      → OnlyReads outside crash_states old new → IsSettled outside crash_states old → Premised outside old new store kept made (λ history state. ReadsAtEnd status (outside old) (outside new))
+      → Premised outside old new store kept made (λ history state. StoppedBy outside crash_states store old new history (is_answer state) status)
+  stopped_pure store old new kept made is_answer status reads settled ends told sound history state log at =
+      stopped_reading store old new reads told settled history state.store log (is_answer state) status (ends told sound history state log at)
 
   -- nothing happened
   pub reads_same : (old new : D) → new ≡ old → OnlyReads outside crash_states old new
@@ -150,9 +168,10 @@ module _ {D : Type 0} (outside : D → Outside) (crash_states : D → CrashState
       subst (λ (k : chunk.Store). AnsweredBy outside crash_states store old new history (is_answer state) reply k next) (sym same_store)
       (pure_line store old new kept made next is_answer reply (reads_same old new same) settled pure told sound history state log at)
 
-  pub still_stopped : (store : Store) (p : D) (kept : chunk.Store) (made : session.Session) (is_answer : ScriptState → Answer → Type 0) → IsSettled outside crash_states p
-      → Premised outside p p store kept made (λ history state. StoppedBy outside crash_states store p p history (is_answer state))
-  still_stopped store p kept made is_answer settled = stopped_pure store p p kept made is_answer (reads_nothing outside crash_states counts p) settled
+  pub still_stopped : (store : Store) (p : D) (kept : chunk.Store) (made : session.Session) (is_answer : ScriptState → Answer → Type 0) (status : Status) → IsSettled outside crash_states p
+      → Premised outside p p store kept made (λ history state. StoppedBy outside crash_states store p p history (is_answer state) status)
+  still_stopped store p kept made is_answer status settled =
+      stopped_pure store p p kept made is_answer status (reads_nothing outside crash_states counts p) settled (λ told sound history state log at. none_at_end status (outside p) (outside p) refl)
 
   pub still_whole : (store : Store) (old new : D) (kept : chunk.Store) → new ≡ old → ScriptWhole outside old new store kept
   still_whole store old new kept same told sound history from log at intact = along (λ ws a. IsIntact ws store a) old new told (reads_same old new same) intact

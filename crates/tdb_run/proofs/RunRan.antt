@@ -156,7 +156,7 @@ module _ {D : Type 0} (outside : D → Outside) (crash_states : D → CrashState
               kept new (surely ++ r.maybe) part rest
               (are_both surely r.maybe
               (are_both b.begun (added_by r.answers) (by_run from b.begun b.opened b.begins) (session_of_run store (outside mid) (history ++ b.begun) (script_at b.opened) c.lines r.answers r.moment r.last r.session))
-              (next_of_run store r.moment (outside new) r.last c.unanswered c.next r.maybe r.of_next))
+              (next_of_run store r.moment (outside new) status r.last c.unanswered c.next r.maybe r.of_next))
               has a to;
         }
 

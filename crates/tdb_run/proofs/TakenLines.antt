@@ -36,7 +36,7 @@ pub too_long_answered : {D : Type 0} (outside : D → Outside) (crash_states : D
     → LineAnswered outside crash_states store p p history state line reply kept made
 too_long_answered outside crash_states counts store p history state line reply kept made long told_so told settled log at = record {
   given = unbuilt state;
-  answers = inr (λ value is. absurd (omega (arith, long, is.fits)), refl);
+  answers = inr (λ value is. absurd (omega (arith, long, is.fits)), refl, refl);
   reply_is = sym told_so;
   log = subst (λ (h : History). IsLog (outside p).trace.written store (outside p).anchor h state.store) (sym (append-nil history)) log;
   at = at;

@@ -1,13 +1,14 @@
 -- The open transaction of a session, and what it is in a script's state.
 use Rattle.std.proofs.Common.{◌≡◌, ◌⊎◌, inl, ℕ, Bool, true, false, List, Option, Some, None, refl, sym, ◌∙◌, ap, subst}
 use Rattle.std.proofs.lemmas.Bool.{eq-eqb, eqb-true}
-use Rattle.std.specs.Prelude.{◌==◌, if◌then◌else◌}
+use Rattle.std.specs.Prelude.{◌==◌, ◌&&◌, is_some, is_none, if◌then◌else◌}
 use Rattle.tdb_base.specs.declared.names.Rank.{Rank}
 use Rattle.tdb_base.specs.declared.names.TxId.{TxId}
 use Rattle.tdb_model.specs.Lookup.{chunk_at}
 use Rattle.tdb_overlay.specs.StoreState.{StoreState}
 use Rattle.tdb_script.specs.declared.reply.Reply.{Reply}
 use Rattle.tdb_script.specs.declared.reply.Reply.TheVariants.{RefusedNoTransaction, Tampered}
+use Rattle.tdb_run.specs.LineReads.{needs_record}
 use Rattle.tdb_run.specs.Script as script
 use Rattle.tdb_run.specs.Script.{Answer, IsChunkReply, IsGetAnswer, IsNoteReply, ScriptState, in_transaction, notes_part, own_note, replied, tx}
 use Rattle.tdb_run.specs.SessionState.{IsSessionAt, notes_of, numbered, transaction_in, transaction_of}
@@ -39,6 +40,12 @@ module _ (session : Session) (number : TxId) (open' : Transaction) (found : numb
   answered_in answer = ap (in_transaction state number.0 answer) state_transaction
       ∙ ap (λ (b : Bool). if b then answer (transaction_of open') else replied (RefusedNoTransaction (tx number.0)) state) (eq-eqb _ _ (numbered_some session.transaction number open' found).same)
 
+  -- whether `get` reads a record, by the note that its transaction made
+  pub needs_by : (id : ℕ) (text : Option (List ℕ)) → own_note (notes_of open'.notes.items) id ≡ text → needs_record state number.0 id state.transaction ≡ (is_none text && is_some (chunk_at state.store.chunks 1 id))
+  needs_by id text own = ap (needs_record state number.0 id) state_transaction
+      ∙ ap (λ (b : Bool). b && (is_none (own_note (notes_of open'.notes.items) id) && is_some (chunk_at state.store.chunks 1 id))) (eq-eqb _ _ (numbered_some session.transaction number open' found).same)
+      ∙ ap (λ (o : Option (List ℕ)). is_none o && is_some (chunk_at state.store.chunks 1 id)) own
+
   -- the answer to `get` of a note
   pub note_answer : (damaged : ℕ → Type 0) (id : Rank) (reply : Reply) → IsNoteReply (damaged id.0) state number.0 id.0 (own_note (notes_of open'.notes.items) id.0) reply
       → IsGetAnswer damaged state number.0 id.0 state.transaction (replied reply state)
@@ -69,3 +76,12 @@ none_in (Some t) number state answer none =
 pub refused_in : (session : Session) (number : TxId) (state : ScriptState) (answer : script.Transaction → Answer) → numbered session.transaction number ≡ None → IsSessionAt session state
     → in_transaction state number.0 answer state.transaction ≡ replied (RefusedNoTransaction number) state
 refused_in session number state answer none at = ap (in_transaction state number.0 answer) (sym at.transaction) ∙ none_in session.transaction number state answer none
+
+-- then `get` reads no record
+none_needs : (t : Option Transaction) (number : TxId) (state : ScriptState) (id : ℕ) → numbered t number ≡ None → needs_record state number.0 id (transaction_in t) ≡ false
+none_needs None number state id none = refl
+none_needs (Some t) number state id none =
+    ap (λ (b : Bool). b && (is_none (own_note (notes_of t.notes.items) id) && is_some (chunk_at state.store.chunks 1 id))) (if_other (t.number.0 == number.0) t none)
+
+pub unneeded_in : (session : Session) (number : TxId) (state : ScriptState) (id : ℕ) → numbered session.transaction number ≡ None → IsSessionAt session state → needs_record state number.0 id state.transaction ≡ false
+unneeded_in session number state id none at = ap (needs_record state number.0 id) (sym at.transaction) ∙ none_needs session.transaction number state id none

@@ -4,6 +4,7 @@ pub mod CommandValue
 pub mod Drawn
 pub mod Gave
 pub mod LastLine
+pub mod LineReads
 pub mod LineResult
 pub mod Making
 pub mod NotesCommit

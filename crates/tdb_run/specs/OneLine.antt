@@ -36,7 +36,7 @@ pub record HasStoppedLine {D : Type 0} (outside : D → Outside) (crash_states :
   pub next : IsNextLine came gone old.lines new.lines line
   pub why : IsStopOfLine (outside old.platform) (outside new.platform) status
   pub premised : Premised outside old.platform new.platform spec old.store old.session
-      (λ history state. LineStopped outside crash_states spec old.platform new.platform history state line)
+      (λ history state. LineStopped outside crash_states spec old.platform new.platform history state line status)
 
 -- there is no further line, and all else is as it was
 pub record HasNoLine {D : Type 0} (came gone : SourceContent) (old new : Turn D) (status : Status) : Type 0 where

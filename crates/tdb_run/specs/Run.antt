@@ -54,7 +54,7 @@ pub record HasScript {came gone : SourceContent} (store : Store) (c : Conversati
   pub ends : Extends moment.trace new.trace
   pub last : ScriptState
   pub session : Session store started (history ++ begun) (script_at opened) c.lines answers moment last
-  pub of_next : IsOfNext store moment new last c.unanswered c.next maybe
+  pub of_next : IsOfNext store moment new status last c.unanswered c.next maybe
   pub none_at_done : NoneAtDone status maybe
   pub ends_so : IsScriptStatus status
 

@@ -13,7 +13,7 @@ use Rattle.tdb_model.specs.Lookup.{chunk_at}
 use Rattle.tdb_model.specs.State.{Partition}
 use Rattle.tdb_overlay.specs.Found.{Store}
 use Rattle.tdb_overlay.specs.StoreState.{StoreState, commit_on}
-use Rattle.tdb_script.specs.LineSpelling.{LineValue, IsLine, begin, new_note, get, abort, commit, quit}
+use Rattle.tdb_script.specs.LineSpelling.{LineValue, begin, new_note, get, abort, commit, quit}
 use Rattle.tdb_script.specs.NoteText.{IsStoredNote, stored_note_bytes}
 use Rattle.tdb_script.specs.declared.reply.Reply.{Reply}
 use Rattle.tdb_script.specs.declared.reply.Reply.TheVariants.{Begun, Made, Got, Aborted, Committed, Bye, RefusedUnbuilt, RefusedNoTransaction, RefusedOpen, RefusedNoObject, RefusedPickle, RefusedIds, RefusedChanges, RefusedFull, RefusedRing, RefusedCounter, Tampered}
@@ -146,12 +146,6 @@ IsAnswer store damaged state (new_note number text) given = given ≡ in_transac
 IsAnswer store damaged state (get number id) given = IsGetAnswer damaged state number id state.transaction given
 IsAnswer store damaged state (abort number) given = given ≡ in_transaction state number (abort_answer state) state.transaction
 IsAnswer store damaged state (commit number) given = given ≡ in_transaction state number (λ t. commit_answer store state t (changes_of t.notes)) state.transaction
-
--- The answer to a line's bytes. Bytes of no line are a line that isn't built.
-abbrev pub Answers : Store → (ℕ → Type 0) → ScriptState → List ℕ → Answer → Type 0
-Answers store damaged state bytes given =
-    ((line : LineValue) × IsLine bytes line × IsAnswer store damaged state line given)
-    ⊎ (((line : LineValue) → IsLine bytes line → ⊥) × (given ≡ unbuilt state))
 
 -- the first id that a run draws: no id that was ever written, and not 0
 abbrev pub first_id : Option Partition → ℕ

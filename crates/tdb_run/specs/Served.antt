@@ -12,6 +12,7 @@ use Rattle.tdb_stream.specs.SinkContent.{SinkContent}
 use Rattle.tdb_stream.specs.SourceContent.{SourceContent}
 use Rattle.tdb_overlay.specs.Found.{Store}
 use Rattle.tdb_run.specs.Gave.{HasNoLineFeed}
+use Rattle.tdb_run.specs.LineReads.{ReadsAtEnd}
 use Rattle.tdb_run.specs.LineResult.{HasAllOf, HasPartOf}
 use Rattle.tdb_run.specs.Replies.{Conversation, HasAnswered, HasCut, replies_text}
 use Rattle.tdb_run.specs.Script.{Answer, ScriptState}
@@ -45,9 +46,9 @@ NoneAtDone End maybe = Unit {0}
 NoneAtDone (Refused refusal) maybe = Unit {0}
 
 -- There is no answer to the next line, or this one: its commit may have been made, and its reply not put whole.
-abbrev pub IsOfNext : Store → Outside → Outside → ScriptState → List ℕ → Option Reply → History → Type 0
-IsOfNext store old new last unanswered next maybe =
-    ((next ≡ None) × (maybe ≡ []))
+abbrev pub IsOfNext : Store → Outside → Outside → Status → ScriptState → List ℕ → Option Reply → History → Type 0
+IsOfNext store old new status last unanswered next maybe =
+    ((next ≡ None) × (maybe ≡ []) × ReadsAtEnd status old new)
     ⊎ ((line : List ℕ) × (later : List ℕ) × (given : Answer) × (unanswered ≡ line ++ 10 ∷ later) × HasNoLineFeed line × AnswersBetween store old new last line given
     × (maybe ≡ given.added) × ((next ≡ None) ⊎ (next ≡ Some given.reply)))
 
@@ -61,7 +62,7 @@ pub record ScriptRan {D : Type 0} (outside : D → Outside) (crash_states : D �
   pub goes_on : Extends moment.trace (outside new).trace
   pub replies : map (λ given. given.reply) answers ≡ c.replies
   pub maybe : History
-  pub of_next : IsOfNext store moment (outside new) last c.unanswered c.next maybe
+  pub of_next : IsOfNext store moment (outside new) status last c.unanswered c.next maybe
   pub none_at_done : NoneAtDone status maybe
   pub log : HasAllOf (outside new).trace.written store history (added_by answers) maybe (outside new).anchor
   pub left : (i : List ℕ) (a : Anchor) → now outside crash_states new i a → HasAllOf (outside new).trace.written store history (added_by answers) maybe a

@@ -1,5 +1,5 @@
 -- The session of a run: its lines, one after another, each answered by the log that the anchor then had.
-use Rattle.std.specs.Prelude.{◌≡◌, ℕ, List, [], ◌∷◌, ◌++◌, Some}
+use Rattle.std.specs.Prelude.{◌≡◌, ◌⊎◌, false, ℕ, List, [], ◌∷◌, ◌++◌, Some}
 use Rattle.std.specs.FinMap.{get}
 use Rattle.tdb_base.specs.declared.piece.Piece.{Piece}
 use Rattle.tdb_base.specs.Trace.{Extends}
@@ -11,7 +11,9 @@ use Rattle.tdb_overlay.specs.Found.{Store, in_trace}
 use Rattle.tdb_overlay.specs.Log.{IsLog}
 use Rattle.tdb_overlay.specs.Reading.{HasRead}
 use Rattle.tdb_overlay.specs.Required.{IsRequired, IsDamaged}
-use Rattle.tdb_run.specs.Script.{Answer, Answers, ScriptState}
+use Rattle.tdb_script.specs.LineSpelling.{LineValue, IsLine}
+use Rattle.tdb_run.specs.LineReads.{HasReadFor, gets_record}
+use Rattle.tdb_run.specs.Script.{Answer, IsAnswer, ScriptState, unbuilt}
 
 -- In what was read meanwhile the record of the object, which the log of the anchor needs, was damaged.
 pub record IsDamagedObject (store : Store) (old new : Outside) (state : State) (id : ℕ) : Type 0 where
@@ -26,12 +28,20 @@ pub record IsDamagedObject (store : Store) (old new : Outside) (state : State) (
   pub found : List ℕ
   pub damaged : IsDamaged read.more piece found
 
--- one line is answered between two moments
+-- A line of the grammar is answered between two moments, with one read in between where it gets a record, and else none.
+abbrev pub IsAnswerBetween : Store → Outside → Outside → ScriptState → LineValue → Answer → Type 0
+IsAnswerBetween store old new state line given =
+    IsAnswer store (λ id. IsDamagedObject store old new state.store.chunks id) state line given × HasReadFor (gets_record state line) old new
+
+-- A line's bytes are. Bytes of no line are a line that isn't built, and read nothing.
 abbrev pub AnswersBetween : Store → Outside → Outside → ScriptState → List ℕ → Answer → Type 0
-AnswersBetween store old new state line given = Answers store (λ id. IsDamagedObject store old new state.store.chunks id) state line given
+AnswersBetween store old new state bytes given =
+    ((line : LineValue) × IsLine bytes line × IsAnswerBetween store old new state line given)
+    ⊎ (((line : LineValue) → IsLine bytes line → ⊥) × (given ≡ unbuilt state) × HasReadFor false old new)
 
 -- From a first moment, history and state on, these lines are given these answers. Each is given between two moments, and at
--- the second one the log of the anchor has the commit of the answer behind the history so far, and the answer's state.
+-- the second one the log of the anchor has the commit of the answer behind the history so far, and the answer's state. The
+-- next line begins at that moment, so that each read is of one line.
 -- The last moment and state are those of the last answer.
 abbrev pub Session : Store → Outside → History → ScriptState → List (List ℕ) → List Answer → Outside → ScriptState → Type 0
 Session store begun history first [] [] now last = (last ≡ first) × (now ≡ begun)

@@ -1,5 +1,5 @@
 //! What each line of a script is answered, over an open store.
-ghost use Rattle.std.specs.Prelude.{◌≡◌, ◌⊎◌, ◌<◌, ◌≤◌, ℕ, IfOk, IfErr, IsTrue, OnOk, Ok, Some, None, length};
+ghost use Rattle.std.specs.Prelude.{◌≡◌, ◌⊎◌, ◌<◌, ◌≤◌, ℕ, IfOk, IfErr, IsTrue, OnOk, Ok, Some, None, is_some, length};
 ghost use Rattle.std.specs.List.{AllByRecursion};
 ghost use Rattle.tdb_model.specs.Lookup.{chunk_at};
 ghost use Rattle.tdb_overlay.specs.Reading.{OnlyReads};
@@ -11,12 +11,13 @@ ghost use Rattle.tdb_chunk.specs.Committing.{is_refusal};
 ghost use Rattle.tdb_chunk.specs.Known.{store_of};
 ghost use Rattle.tdb_model.specs.declared.error.CommitError.TheVariants as errors;
 ghost use Rattle.tdb_run.specs.declared.status.Status.TheVariants.{Memory, PlatformFault};
+ghost use Rattle.tdb_run.specs.LineReads.{HasReadFor, ReadsAtEnd, needs_record};
 ghost use Rattle.tdb_run.specs.LineResult.{AnsweredBy, LineAnswered, LineStopped, Premised, StaysWhole, StoppedBy};
 ghost use Rattle.tdb_run.specs.NotesCommit.{IsCommitted, IsRefused, MayBeCommitted};
 ghost use Rattle.tdb_run.specs.Opened.{GoesOn, IsOpened};
-ghost use Rattle.tdb_run.specs.Script.{IsAnswer, IsChunkReply, IsGetAnswer, ScriptState, changes_of, commit_answer, in_transaction, notes_part, refusal_reply, replied};
+ghost use Rattle.tdb_run.specs.Script.{IsChunkReply, IsGetAnswer, ScriptState, changes_of, commit_answer, in_transaction, notes_part, refusal_reply, replied};
 ghost use Rattle.tdb_run.specs.ScriptServed.{OverLog, ScriptWhole};
-ghost use Rattle.tdb_run.specs.Session.{IsDamagedObject};
+ghost use Rattle.tdb_run.specs.Session.{IsAnswerBetween, IsDamagedObject};
 ghost use Rattle.tdb_run.specs.SessionState.{IsSessionAt, notes_of};
 ghost use Rattle.tdb_run.specs.Stopping.{IsStopOfLine};
 ghost use Rattle.tdb_chunk.specs.Writing.{IsInLimits, writes_of};
@@ -51,7 +52,7 @@ pub(crate) fn answer<P: Platform>(
         (λ history state. LineAnswered P.outside P.crash_states (store_of store.old) platform.old platform.new history state bytes.now reply store.new session.new)) }
     ensures stopped { IfErr result (λ status. IsStopOfLine (P.outside platform.old) (P.outside platform.new) status) }
     ensures stopped_at { IfErr result (λ status. Premised P.outside platform.old platform.new (store_of store.old) store.old session.old
-        (λ history state. LineStopped P.outside P.crash_states (store_of store.old) platform.old platform.new history state bytes.now)) }
+        (λ history state. LineStopped P.outside P.crash_states (store_of store.old) platform.old platform.new history state bytes.now status)) }
     ensures opened { OnOk result (IsOpened P.outside P.crash_states platform.new store.new) }
     ensures same_store { OnOk result (store_of store.new ≡ store_of store.old) }
     ensures goes_on { GoesOn (store_of store.old) (P.outside platform.old) (P.outside platform.new) }
@@ -75,11 +76,11 @@ fn answer_line<P: Platform>(
     requires value { IsLineValue (value_of_line line) }
     ensures answered { IfOk result (λ reply. Premised P.outside platform.old platform.new (store_of store.old) store.old session.old
         (λ history state. AnsweredBy P.outside P.crash_states (store_of store.old) platform.old platform.new history
-        (λ given. IsAnswer (store_of store.old) (λ id. IsDamagedObject (store_of store.old) (P.outside platform.old) (P.outside platform.new) state.store.chunks id) state (value_of_line line.entry) given) reply store.new session.new)) }
+        (λ given. IsAnswerBetween (store_of store.old) (P.outside platform.old) (P.outside platform.new) state (value_of_line line.entry) given) reply store.new session.new)) }
     ensures stopped { IfErr result (λ status. IsStopOfLine (P.outside platform.old) (P.outside platform.new) status) }
     ensures stopped_at { IfErr result (λ status. Premised P.outside platform.old platform.new (store_of store.old) store.old session.old
         (λ history state. StoppedBy P.outside P.crash_states (store_of store.old) platform.old platform.new history
-        (λ given. IsAnswer (store_of store.old) (λ id. IsDamagedObject (store_of store.old) (P.outside platform.old) (P.outside platform.new) state.store.chunks id) state (value_of_line line.entry) given))) }
+        (λ given. IsAnswerBetween (store_of store.old) (P.outside platform.old) (P.outside platform.new) state (value_of_line line.entry) given) status)) }
     ensures opened { OnOk result (IsOpened P.outside P.crash_states platform.new store.new) }
     ensures same_store { OnOk result (store_of store.new ≡ store_of store.old) }
     ensures goes_on { GoesOn (store_of store.old) (P.outside platform.old) (P.outside platform.new) }
@@ -129,7 +130,10 @@ fn get_note<P: Platform>(
     requires opened { IsOpened P.outside P.crash_states platform.old store.now }
     ensures answered { IfOk result (λ reply. OverLog P.outside platform.old platform.new (store_of store.now) store.now (λ history from. (state : ScriptState) → state.store ≡ from → IsSessionAt session.now state
         → IsGetAnswer (λ id. IsDamagedObject (store_of store.now) (P.outside platform.old) (P.outside platform.new) from.chunks id) state number.0 id.0 state.transaction (replied reply state))) }
+    ensures once { IfOk result (λ reply. OverLog P.outside platform.old platform.new (store_of store.now) store.now (λ history from. (state : ScriptState) → state.store ≡ from → IsSessionAt session.now state
+        → HasReadFor (needs_record state number.0 id.0 state.transaction) (P.outside platform.old) (P.outside platform.new))) }
     ensures stopped { IfErr result (λ status. IsStopOfLine (P.outside platform.old) (P.outside platform.new) status) }
+    ensures stopped_reads { IfErr result (λ status. OverLog P.outside platform.old platform.new (store_of store.now) store.now (λ history from. ReadsAtEnd status (P.outside platform.old) (P.outside platform.new))) }
     ensures reads { OnlyReads P.outside P.crash_states platform.old platform.new }
 {
     let Some(open) = session.open(number) else {
@@ -155,7 +159,10 @@ fn get_committed<P: Platform>(
     requires opened { IsOpened P.outside P.crash_states platform.old store.now }
     ensures answered { IfOk result (λ reply. OverLog P.outside platform.old platform.new (store_of store.now) store.now (λ history from.
         IsChunkReply number.0 id.0 (chunk_at from.chunks 1 id.0) reply ⊎ (IsDamagedObject (store_of store.now) (P.outside platform.old) (P.outside platform.new) from.chunks id.0 × (reply ≡ Tampered notes_part id)))) }
+    ensures once { IfOk result (λ reply. OverLog P.outside platform.old platform.new (store_of store.now) store.now
+        (λ history from. HasReadFor (is_some (chunk_at from.chunks 1 id.0)) (P.outside platform.old) (P.outside platform.new))) }
     ensures stopped { IfErr result (λ status. IsStopOfLine (P.outside platform.old) (P.outside platform.new) status) }
+    ensures stopped_reads { IfErr result (λ status. OverLog P.outside platform.old platform.new (store_of store.now) store.now (λ history from. ReadsAtEnd status (P.outside platform.old) (P.outside platform.new))) }
     ensures reads { OnlyReads P.outside P.crash_states platform.old platform.new }
 {
     match store.read(alloc, platform, NOTES_PART, id) {
@@ -204,7 +211,8 @@ fn commit<P: Platform>(
     ensures stopped { IfErr result (λ status. IsStopOfLine (P.outside platform.old) (P.outside platform.new) status) }
     ensures stopped_at { IfErr result (λ status. Premised P.outside platform.old platform.new (store_of store.old) store.old session.old
         (λ history state. StoppedBy P.outside P.crash_states (store_of store.old) platform.old platform.new history
-        (λ given. given ≡ in_transaction state number.0 (λ t. commit_answer (store_of store.old) state t (changes_of t.notes)) state.transaction))) }
+        (λ given. given ≡ in_transaction state number.0 (λ t. commit_answer (store_of store.old) state t (changes_of t.notes)) state.transaction) status)) }
+    ensures unread { IsTrue (P.outside platform.old).tells → (P.outside platform.new).trace.read ≡ (P.outside platform.old).trace.read }
     ensures opened { OnOk result (IsOpened P.outside P.crash_states platform.new store.new) }
     ensures same_store { OnOk result (store_of store.new ≡ store_of store.old) }
     ensures goes_on { GoesOn (store_of store.old) (P.outside platform.old) (P.outside platform.new) }
@@ -248,6 +256,7 @@ fn commit_notes<P: Platform>(
     ensures stopped { IfErr result (λ status. IsStopOfLine (P.outside platform.old) (P.outside platform.new) status) }
     ensures stopped_at { IfErr result (λ status. OverLog P.outside platform.old platform.new (store_of store.old) store.old
         (λ history from. MayBeCommitted P.outside P.crash_states (store_of store.old) platform.old platform.new history from (writes_of notes_part chunks.now))) }
+    ensures unread { IsTrue (P.outside platform.old).tells → (P.outside platform.new).trace.read ≡ (P.outside platform.old).trace.read }
     ensures opened { OnOk result (IsOpened P.outside P.crash_states platform.new store.new) }
     ensures same_store { OnOk result (store_of store.new ≡ store_of store.old) }
     ensures goes_on { GoesOn (store_of store.old) (P.outside platform.old) (P.outside platform.new) }

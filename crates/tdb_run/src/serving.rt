@@ -54,7 +54,7 @@ fn answer_taken<P: Platform>(
         (λ history state. LineAnswered P.outside P.crash_states (store_of store.old) platform.old platform.new history state line reply store.new session.new)) }
     ensures stopped { IfErr result (λ status. IsStopOfLine (P.outside platform.old) (P.outside platform.new) status) }
     ensures stopped_at { (line : List ℕ) → IsTakenAs next lines.now line → IfErr result (λ status. Premised P.outside platform.old platform.new (store_of store.old) store.old session.old
-        (λ history state. LineStopped P.outside P.crash_states (store_of store.old) platform.old platform.new history state line)) }
+        (λ history state. LineStopped P.outside P.crash_states (store_of store.old) platform.old platform.new history state line status)) }
     ensures opened { OnOk result (IsOpened P.outside P.crash_states platform.new store.new) }
     ensures same_store { OnOk result (store_of store.new ≡ store_of store.old) }
     ensures goes_on { GoesOn (store_of store.old) (P.outside platform.old) (P.outside platform.new) }

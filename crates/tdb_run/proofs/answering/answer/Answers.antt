@@ -21,7 +21,7 @@ returns-in-Some-clause-stopped_at g c =
     IfErr-weaker c.answer_line.result _ _
     (λ status stopped told sound history state log at.
     stopped_weaker g.P.Platform.outside g.P.Platform.crash_states (store_of c.args.store.now) c.args.platform.now c.answer_line.new.platform history _ _
-    (λ given is. inl (value_of_line c.in-Some.line, c.in-Some.ensures.found, is)) (stopped told sound history state log at))
+    (λ given is. inl (value_of_line c.in-Some.line, c.in-Some.ensures.found, is)) status (stopped told sound history state log at))
     c.answer_line.ensures.stopped_at
 
 pub returns-in-None-clause-answered : goal.returns-in-None-clause-answered
@@ -31,7 +31,7 @@ returns-in-None-clause-answered g c =
     let store = store_of c.args.store.now in
     still_line g.P.Platform.outside g.P.Platform.crash_states g.met.P.Platform.counts store p p c.args.store.now c.args.store.now c.args.session.now c.args.session.now
     (λ state given. AnswersBetween store o o state c.args.bytes.now given) _ refl refl c.requires.opened.settled
-    (λ told sound history state log at. (unbuilt state, inr (c.in-None.ensures.none, refl), record { reply_is = refl; at = at.session; store = refl; none = refl }))
+    (λ told sound history state log at. (unbuilt state, inr (c.in-None.ensures.none, refl, refl), record { reply_is = refl; at = at.session; store = refl; none = refl }))
 
 pub returns-in-None-clause-goes_on : goal.returns-in-None-clause-goes_on
 returns-in-None-clause-goes_on g c = still_goes_on g.P.Platform.outside g.P.Platform.crash_states g.met.P.Platform.counts (store_of c.args.store.now) c.args.platform.now

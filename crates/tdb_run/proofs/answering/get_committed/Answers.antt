@@ -1,7 +1,9 @@
 use Rattle.std.proofs.Common.{◌≡◌, ℕ, List, Option, Some, Err, inl, inr, refl, sym, ◌∙◌, ap, subst}
 use Rattle.tdb_model.specs.Lookup.{chunk_at}
+use Rattle.std.specs.Prelude.{is_some}
+use Rattle.tdb_run.specs.LineReads.{HasReadFor}
 use Rattle.tdb_run.specs.Script.{IsChunkReply}
-use Rattle.tdb_run.proofs.DamagedObjects.{damaged_object}
+use Rattle.tdb_run.proofs.DamagedObjects.{at_most_one, damaged_is_there, damaged_object, one_read}
 use Rattle.tdb_run.proofs.answering.get_committed.Goals as goal
 
 pub returns-in-Ok-chunk_reply-clause-answered : goal.returns-in-Ok-chunk_reply-clause-answered
@@ -18,3 +20,30 @@ returns-in-Err-Tampered-clause-answered g c told sound history from log knows = 
 
 pub returns-in-Err-Form-clause-answered : goal.returns-in-Err-Form-clause-answered
 returns-in-Err-Form-clause-answered g c told sound history from log knows = absurd (c.in-Err-Form.ensures.form told sound from knows c.in-Err-Form.field-0-0 (ap Err c.in-Err-Form.field-0-is))
+
+pub returns-in-Ok-chunk_reply-clause-once : goal.returns-in-Ok-chunk_reply-clause-once
+returns-in-Ok-chunk_reply-clause-once g c told sound history from log knows =
+    let old = g.P.Platform.outside c.args.platform.now in
+    let new = g.P.Platform.outside c.read.new.platform in
+    subst (λ (chunk : Option (List ℕ)). HasReadFor (is_some chunk) old new) (sym (c.in-Ok.ensures.chunk told sound from knows)) (one_read c.args.store.now old new (c.in-Ok.ensures.once told from knows))
+
+pub returns-in-Err-Tampered-clause-once : goal.returns-in-Err-Tampered-clause-once
+returns-in-Err-Tampered-clause-once g c told sound history from log knows =
+    let old = g.P.Platform.outside c.args.platform.now in
+    let new = g.P.Platform.outside c.read.new.platform in
+    let damage = c.in-Err-Tampered.field-0-0 in
+    let is : _ = ap Err c.in-Err-Tampered.field-0-is in
+    subst (λ (chunk : Option (List ℕ)). HasReadFor (is_some chunk) old new)
+    (sym (damaged_is_there c.args.store.now old new from c.args.id.0 damage (c.in-Err-Tampered.ensures.tampered damage is told from knows)))
+    (one_read c.args.store.now old new (c.in-Err-Tampered.ensures.damaged_once damage is told from knows))
+
+pub returns-in-Err-Form-clause-once : goal.returns-in-Err-Form-clause-once
+returns-in-Err-Form-clause-once g c told sound history from log knows = absurd (c.in-Err-Form.ensures.form told sound from knows c.in-Err-Form.field-0-0 (ap Err c.in-Err-Form.field-0-is))
+
+pub returns-in-Ok-clause-stopped_reads : goal.returns-in-Ok-clause-stopped_reads
+returns-in-Ok-clause-stopped_reads g c told sound history from log knows =
+    inr (one_read c.args.store.now (g.P.Platform.outside c.args.platform.now) (g.P.Platform.outside c.read.new.platform) (c.in-Ok.ensures.once told from knows))
+
+pub returns-in-Err-Memory-clause-stopped_reads : goal.returns-in-Err-Memory-clause-stopped_reads
+returns-in-Err-Memory-clause-stopped_reads g c told sound history from log knows =
+    at_most_one c.args.store.now (g.P.Platform.outside c.args.platform.now) (g.P.Platform.outside c.read.new.platform) (c.in-Err-Memory.ensures.at_most_once told from knows)

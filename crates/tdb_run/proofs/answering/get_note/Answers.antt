@@ -1,9 +1,13 @@
-use Rattle.std.proofs.Common.{ℕ, sym}
+use Rattle.std.proofs.Common.{ℕ, Bool, None, refl, sym, ◌∙◌, ap, subst}
 use Rattle.std.proofs.lemmas.Result.{IfOk-weaker}
 use Rattle.tdb_overlay.proofs.ReadingLaws.{reads_nothing}
 use Rattle.tdb_chunk.specs.Known.{store_of}
+use Rattle.std.specs.Prelude.{is_some}
+use Rattle.tdb_model.specs.Lookup.{chunk_at}
+use Rattle.tdb_overlay.specs.StoreState.{StoreState}
+use Rattle.tdb_run.specs.LineReads.{HasReadFor}
 use Rattle.tdb_run.specs.Session.{IsDamagedObject}
-use Rattle.tdb_run.proofs.Transactions.{chunk_answer}
+use Rattle.tdb_run.proofs.Transactions.{chunk_answer, needs_by, unneeded_in}
 use Rattle.tdb_run.proofs.answering.get_note.Goals as goal
 
 pub returns-in_default-clause-reads : goal.returns-in_default-clause-reads
@@ -25,3 +29,26 @@ returns-clause-answered g c =
     let damaged : ℕ → Type 0 = λ id. IsDamagedObject (store_of store) old new from.chunks id in
     chunk_answer c.args.session.now c.args.number c.in-Some.open.now (sym c.in-Some.ensures) state in_session damaged from c.args.id reply same (sym c.in_default-own.ensures) (answered told sound history from log at))
     c.get_committed.ensures.answered
+
+pub returns-in_default-clause-once : goal.returns-in_default-clause-once
+returns-in_default-clause-once g c told sound history from log at state same in_session =
+    let o = g.P.Platform.outside c.args.platform.now in
+    subst (λ (b : Bool). HasReadFor b o o) (sym (unneeded_in c.args.session.now c.args.number state c.args.id.0 (sym c.in_default.ensures) in_session)) refl
+
+pub returns-in-Ok-clause-once : goal.returns-in-Ok-clause-once
+returns-in-Ok-clause-once g c told sound history from log at state same in_session =
+    let o = g.P.Platform.outside c.args.platform.now in
+    subst (λ (b : Bool). HasReadFor b o o) (sym (needs_by c.args.session.now c.args.number c.in-Some.open.now (sym c.in-Some.ensures) state in_session c.args.id.0 _ (sym c.in-Some-own.ensures))) refl
+
+pub returns-clause-once : goal.returns-clause-once
+returns-clause-once g c =
+    let store = c.args.store.now in
+    let old = g.P.Platform.outside c.args.platform.now in
+    let new = g.P.Platform.outside c.get_committed.new.platform in
+    IfOk-weaker c.get_committed.result _ _
+    (λ reply once told sound history from log at state same in_session.
+    subst (λ (b : Bool). HasReadFor b old new)
+    (sym (needs_by c.args.session.now c.args.number c.in-Some.open.now (sym c.in-Some.ensures) state in_session c.args.id.0 None (sym c.in_default-own.ensures)
+    ∙ ap (λ (s : StoreState). is_some (chunk_at s.chunks 1 c.args.id.0)) same))
+    (once told sound history from log at))
+    c.get_committed.ensures.once

@@ -35,5 +35,5 @@ returns-in_default-clause-stopped_at g c line taken =
     IfErr c.answer.result
     (λ status.
     Premised g.P.Platform.outside old new (store_of c.args.store.now) c.args.store.now c.args.session.now
-    (λ history state. LineStopped g.P.Platform.outside g.P.Platform.crash_states (store_of c.args.store.now) old new history state l)))
+    (λ history state. LineStopped g.P.Platform.outside g.P.Platform.crash_states (store_of c.args.store.now) old new history state l status)))
     (c.line.ensures ∙ taken_line c.args.next c.args.lines.now line c.in_default.not-TooLong taken) c.answer.ensures.stopped_at

@@ -1,6 +1,6 @@
-use Rattle.std.proofs.Common.{ℕ, List, Some, ⊎_elim, refl, sym, ◌∙◌, ap, subst}
+use Rattle.std.proofs.Common.{ℕ, List, Some, inl, inr, ⊎_elim, refl, sym, ◌∙◌, ap, subst}
 use Rattle.std.specs.Prelude.{IfErr}
-use Rattle.std.proofs.lemmas.Result.{IfOk-weaker}
+use Rattle.std.proofs.lemmas.Result.{IfErr-weaker, IfOk-weaker}
 use Rattle.tdb_overlay.proofs.ReadingLaws.{reads_nothing}
 use Rattle.tdb_chunk.specs.Reading.{IsLate}
 use Rattle.tdb_chunk.proofs.Shown.{damaged_chunk, known_chunk, known_lack}
@@ -28,6 +28,21 @@ returns-clause-once g c tells last known =
     let o = g.P.Platform.outside c.args.platform.now in
     let k = known_chunk o c.args.self.now last known c.args.part.0 c.args.rank.0 c.in-Some.leader c.in-Some.ensures c.in-Here.piece c.in-Here.ensures in
     IfOk-weaker c.read_chunk.result _ _ (λ bytes one. record { piece = c.in-Here.piece; required = k.found.1; bytes = one.0; read = one.1 }) (c.read_chunk.ensures.once tells)
+
+pub returns-clause-damaged_once : goal.returns-clause-damaged_once
+returns-clause-damaged_once g c damage is tells last known =
+    let o = g.P.Platform.outside c.args.platform.now in
+    let k = known_chunk o c.args.self.now last known c.args.part.0 c.args.rank.0 c.in-Some.leader c.in-Some.ensures c.in-Here.piece c.in-Here.ensures in
+    let one = c.read_chunk.ensures.damaged_once damage is tells in
+    record { piece = c.in-Here.piece; required = k.found.1; bytes = one.0; read = one.1 }
+
+pub returns-clause-at_most_once : goal.returns-clause-at_most_once
+returns-clause-at_most_once g c tells last known =
+    let o = g.P.Platform.outside c.args.platform.now in
+    let k = known_chunk o c.args.self.now last known c.args.part.0 c.args.rank.0 c.in-Some.leader c.in-Some.ensures c.in-Here.piece c.in-Here.ensures in
+    IfErr-weaker c.read_chunk.result _ _
+    (λ error. ⊎_elim (λ none. inl none) (λ one. inr (record { piece = c.in-Here.piece; required = k.found.1; bytes = one.0; read = one.1 })))
+    (c.read_chunk.ensures.at_most_once tells)
 
 pub returns-clause-unread : goal.returns-clause-unread
 returns-clause-unread g c = λ lacks.
