@@ -14,7 +14,7 @@ use Rattle.tdb_run.specs.LineReads.{ReadsAtEnd}
 use Rattle.tdb_run.specs.LineResult.{AnsweredBy, StoppedBy}
 use Rattle.tdb_run.specs.NotesCommit.{IsCommitted, IsRefused, MayBeCommitted}
 use Rattle.tdb_run.specs.Script as script
-use Rattle.tdb_run.specs.Script.{Answer, ScriptState, changes_of, closed, commit_answer, in_transaction, refusal_reply, replied, tried, tx}
+use Rattle.tdb_run.specs.Script.{Answer, ScriptState, changes_of, closed, commit_answer, in_transaction, replied, tried, tx}
 use Rattle.tdb_run.specs.SessionState.{IsPureAnswer, IsSessionAt, notes_of, numbered, transaction_in, transaction_of}
 use Rattle.tdb_run.specs.declared.session.Session.{Session}
 use Rattle.tdb_run.specs.declared.status.Status.{Status}

@@ -1,5 +1,5 @@
 -- What a run has come to that took no line.
-use Rattle.std.proofs.Common.{ℕ, List, [], None, inl, arith, refl, sym, append-nil}
+use Rattle.std.proofs.Common.{ℕ, List, None, inl, arith, refl, sym, append-nil}
 use Rattle.tdb_platform.specs.Outside.{Outside}
 use Rattle.tdb_stream.specs.SinkContent.{SinkContent}
 use Rattle.tdb_stream.specs.SourceContent.{SourceContent}

@@ -1,5 +1,5 @@
 -- What the lines of a script have come to, before the last line of the run is put.
-use Rattle.std.proofs.Common.{◌≡◌, ⊎_elim, inl, inr, ℕ, ◌-◌, IsTrue, List, [], ◌∷◌, ◌++◌, Option, Some, None, drop, arith, sym, refl, ◌∙◌, ap, subst, length-append, length-take, append-nil}
+use Rattle.std.proofs.Common.{◌≡◌, ⊎_elim, inl, inr, ℕ, ◌-◌, IsTrue, List, [], ◌∷◌, ◌++◌, Option, Some, None, drop, arith, sym, refl, ◌∙◌, ap, subst, length-append, length-take}
 use Rattle.tdb_platform.specs.Outside.{Outside}
 use Rattle.tdb_stream.specs.AddsPrefix.{AddsPrefix}
 use Rattle.tdb_stream.specs.SinkContent.{SinkContent}
@@ -15,7 +15,7 @@ use Rattle.tdb_run.specs.Unread.{unread}
 use Rattle.tdb_run.specs.declared.script_lines.ScriptLines.{ScriptLines}
 use Rattle.tdb_run.specs.declared.status.Success.TheVariants.{Script}
 use Rattle.tdb_run.specs.declared.status.Status.{Status}
-use Rattle.tdb_run.specs.declared.status.Status.TheVariants.{Done, Memory}
+use Rattle.tdb_run.specs.declared.status.Status.TheVariants.{Done}
 use Rattle.tdb_run.proofs.Conversing.{Conversing, answered_line, held_more, left_unanswered, unanswered_line}
 use Rattle.tdb_run.proofs.Stops.{left_cases, line_cases, put_cases}
 

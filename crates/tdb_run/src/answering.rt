@@ -1,5 +1,5 @@
 //! What each line of a script is answered, over an open store.
-ghost use Rattle.std.specs.Prelude.{◌≡◌, ◌⊎◌, ◌<◌, ◌≤◌, ℕ, IfOk, IfErr, IsTrue, OnOk, Ok, Some, None, is_some, length};
+ghost use Rattle.std.specs.Prelude.{◌≡◌, ◌⊎◌, ◌<◌, ◌≤◌, IfOk, IfErr, IsTrue, OnOk, Ok, Some, None, is_some, length};
 ghost use Rattle.std.specs.List.{AllByRecursion};
 ghost use Rattle.tdb_model.specs.Lookup.{chunk_at};
 ghost use Rattle.tdb_overlay.specs.Reading.{OnlyReads};

@@ -1,5 +1,5 @@
 //! How a run comes to an open store: it makes a new one, or opens the one that is there.
-ghost use Rattle.std.specs.Prelude.{◌≡◌, ◌≢◌, ◌⊎◌, ◌↔◌, ◌<◌, ◌≤◌, ◌+◌, IfErr, IfOk, IsTrue, OnOk, Err, false, true};
+ghost use Rattle.std.specs.Prelude.{◌≡◌, ◌≢◌, ◌⊎◌, ◌↔◌, ◌<◌, ◌≤◌, IfErr, IfOk, IsTrue, OnOk, Err, false, true};
 ghost use Rattle.tdb_base.specs.declared.suite.Suite.TheVariants.{Plain};
 ghost use Rattle.tdb_model.specs.Opening.{opening_changes};
 ghost use Rattle.tdb_chunk.specs.Formatting.{plain_store};
