@@ -13,6 +13,7 @@ use Rattle.tdb_run.specs.Session.{IsAnswerBetween}
 use Rattle.tdb_run.specs.declared.session.Session as session
 use Rattle.tdb_run.specs.declared.status.Status.{Status}
 use Rattle.tdb_chunk.specs.declared.store.Store as chunk
+use Rattle.tdb_run.proofs.ReadingLines.{ends_weaker}
 
 -- the answer to a line of the grammar, between two moments
 abbrev pub IsLineAnswer : Store → Outside → Outside → LineValue → ScriptState → Answer → Type 0
@@ -40,11 +41,11 @@ module _ {D : Type 0} (outside : D → Outside) (crash_states : D → CrashState
   of_weaker maybe (inl none) = inl none
   of_weaker maybe (inr made) = inr (made.0, weaker made.0 made.1, made.2)
 
-  pub stopped_weaker : (status : Status) → StoppedBy outside crash_states store old new history P status → StoppedBy outside crash_states store old new history Q status
-  stopped_weaker status is = record {
+  pub stopped_weaker : (gets gets' : Type 0) (status : Status) → (gets → gets') → StoppedBy outside crash_states store old new history P gets status → StoppedBy outside crash_states store old new history Q gets' status
+  stopped_weaker gets gets' status on is = record {
     maybe = is.maybe;
     of_line = of_weaker is.maybe is.of_line;
-    reads = is.reads;
+    reads = ends_weaker gets gets' status (outside old) (outside new) on is.reads;
     log = is.log;
     left = is.left;
     any_moment = is.any_moment;

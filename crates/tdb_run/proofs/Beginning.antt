@@ -61,7 +61,7 @@ ran_none outside crash_states counts store came p history from status told settl
       goes_on = extends_itself (outside p).trace;
       replies = refl;
       maybe = [];
-      of_next = inl (refl, refl, none_at_end status (outside p) (outside p) refl);
+      of_next = inl (refl, refl, none_at_end _ status (outside p) (outside p) refl);
       none_at_done = none_at_any status;
       log = whole;
       left = λ i a left. subst (λ (b : Anchor). HasAllOf (outside p).trace.written store history [] [] b) (sym (settled told i a left)) whole;

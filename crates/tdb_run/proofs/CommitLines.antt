@@ -73,9 +73,9 @@ module _ (store : Store) (session : Session) (number : TxId) (open' : Transactio
       }
 
       -- it may have been made
-      pub stopped_line : (status : Status) → ReadsAtEnd status (outside old) (outside new) → MayBeCommitted outside crash_states store old new history state.store changes
-          → StoppedBy outside crash_states store old new history (IsCommitAnswer store state number) status
-      stopped_line status ends is = record {
+      pub stopped_line : (gets : Type 0) (status : Status) → ReadsAtEnd gets status (outside old) (outside new) → MayBeCommitted outside crash_states store old new history state.store changes
+          → StoppedBy outside crash_states store old new history (IsCommitAnswer store state number) gets status
+      stopped_line gets status ends is = record {
         maybe = is.maybe;
         reads = ends;
         of_line = ⊎_elim (λ none. inl none) (λ made. inr (tried state (transaction_of open') changes (Ok made.0), tried_is (Ok made.0) made.1, made.2)) is.of_changes;

@@ -5,10 +5,12 @@ use Rattle.tdb_overlay.specs.StoreState.{StoreState}
 use Rattle.tdb_chunk.specs.Known.{store_of}
 use Rattle.tdb_chunk.specs.Reading.{HasReadPiece, IsDamagedChunk}
 use Rattle.tdb_chunk.specs.declared.store.Store as chunk
-use Rattle.std.proofs.Common.{◌≡◌, ◌⊎◌, ◌+◌, ⊎_elim, inl, inr, ℕ, Some, true, false, ◌∙◌, ap}
+use Rattle.std.proofs.Common.{◌≡◌, ◌≢◌, ◌⊎◌, ◌+◌, ⊎_elim, inl, inr, ℕ, IsTrue, List, Option, Some, None, is_some, Result, Err, true, false, refl, ◌∙◌, ap}
 use Rattle.std.specs.FinMap.{get}
 use Rattle.std.specs.Option.{option_and_then}
 use Rattle.tdb_base.specs.Trace.{Trace, calls_in}
+use Rattle.tdb_model.specs.declared.error.ReadError.{ReadError}
+use Rattle.tdb_model.specs.declared.error.ReadError.TheVariants.{NoChunk, NoPartition}
 use Rattle.tdb_model.specs.Lookup.{chunk_at}
 use Rattle.tdb_model.specs.State.{Partition}
 use Rattle.tdb_run.specs.LineReads.{HasReadFor}
@@ -36,5 +38,14 @@ pub one_read : (kept : chunk.Store) (old new : Outside) → HasReadPiece old new
 one_read kept old new is = (record { bytes = is.bytes; place = is.piece.place.0; call = calls_in old.trace + 1; asked = is.piece.length }, ap (λ (t : Trace). t.read) is.read)
 
 -- one piece was read, or none
-pub at_most_one : (kept : chunk.Store) (old new : Outside) → (new.trace ≡ old.trace) ⊎ HasReadPiece old new kept → HasReadFor false old new ⊎ HasReadFor true old new
-at_most_one kept old new is = ⊎_elim (λ none. inl (ap (λ (t : Trace). t.read) none)) (λ one. inr (one_read kept old new one)) is
+pub at_most_one : (kept : chunk.Store) (old new : Outside) (gets : Type 0) → gets → (new.trace ≡ old.trace) ⊎ HasReadPiece old new kept → HasReadFor false old new ⊎ (gets × HasReadFor true old new)
+at_most_one kept old new gets is_there is = ⊎_elim (λ none. inl (ap (λ (t : Trace). t.read) none)) (λ one. inr (is_there, one_read kept old new one)) is
+
+-- what isn't told to lack is there
+chunk_is_there : (o : Option (List ℕ)) → (o ≡ None → ⊥) → IsTrue (is_some o)
+chunk_is_there (Some chunk) isnt = refl
+chunk_is_there None isnt = absurd (isnt refl)
+
+pub is_there : {T : Type 0} (r : Result T ReadError) (last : StoreState) (id : ℕ) → (r ≡ Err NoPartition → ⊥) → (r ≡ Err NoChunk → ⊥) → (get last.chunks 1 ≡ None → r ≡ Err NoPartition)
+    → ((get last.chunks 1 ≢ None) × (chunk_at last.chunks 1 id ≡ None) → r ≡ Err NoChunk) → IsTrue (is_some (chunk_at last.chunks 1 id))
+is_there r last id partition chunk no_partition no_chunk = chunk_is_there (chunk_at last.chunks 1 id) (λ none. chunk (no_chunk (λ lacks. partition (no_partition lacks), none)))

@@ -21,7 +21,7 @@ use Rattle.tdb_chunk.specs.declared.store.Store as memory
 use Rattle.tdb_run.specs.declared.status.Status.{Status}
 use Rattle.tdb_run.specs.declared.status.Status.TheVariants.{Done, Usage, AnchorCount, Damaged, PlatformFault, SourceFault, SinkFault, Memory, End, Refused}
 use Rattle.tdb_run.proofs.LineLogs.{all_behind}
-use Rattle.tdb_run.proofs.ReadingLines.{none_at_end}
+use Rattle.tdb_run.proofs.ReadingLines.{ends_weaker, none_at_end}
 use Rattle.tdb_run.proofs.SoFar.{Counts, SoFar, part_along, leaves_no_part}
 
 -- no commit is none at any status
@@ -51,7 +51,7 @@ module _ {D : Type 0} (outside : D → Outside) (crash_states : D → CrashState
         goes_on = extends_itself (outside mid).trace;
         replies = s.replies_are;
         maybe = [];
-        of_next = inl (none, refl, none_at_end status (outside mid) (outside mid) refl);
+        of_next = inl (none, refl, none_at_end _ status (outside mid) (outside mid) refl);
         none_at_done = none_at_any status;
         log = whole;
         left = λ i a left. subst (λ (b : Anchor). HasAllOf (outside mid).trace.written store history (added_by s.answers) [] b) (sym (settled told i a left)) whole;
@@ -71,7 +71,7 @@ module _ {D : Type 0} (outside : D → Outside) (crash_states : D → CrashState
       goes_on = grows;
       replies = s.replies_are;
       maybe = stopped.maybe;
-      of_next = ⊎_elim (λ nothing. inl (none, nothing, stopped.reads)) (λ made. inr (line, later, made.0, unanswered, no_line_feed, made.1, made.2, inl none)) stopped.of_line;
+      of_next = ⊎_elim (λ nothing. inl (none, nothing, ends_weaker _ _ status (outside mid) (outside new) (λ gets. (line, later, unanswered, no_line_feed, gets)) stopped.reads)) (λ made. inr (line, later, made.0, unanswered, no_line_feed, made.1, made.2, inl none)) stopped.of_line;
       none_at_done = none_at_done stopped.maybe;
       log = all_behind store (outside new).anchor (outside new).trace.written history (added_by s.answers) stopped.maybe stopped.log;
       left = λ i a left. all_behind store a (outside new).trace.written history (added_by s.answers) stopped.maybe (stopped.left i a left);

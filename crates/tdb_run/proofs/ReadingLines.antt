@@ -1,5 +1,5 @@
 -- Lines of a script that only read: they leave the log, and what a stop leaves of it.
-use Rattle.std.proofs.Common.{◌≡◌, inl, ℕ, ◌≤◌, List, [], ◌++◌, IsTrue, refl, sym, ◌∙◌, subst, append-nil, arith}
+use Rattle.std.proofs.Common.{◌≡◌, inl, inr, ⊎_elim, ℕ, ◌≤◌, List, [], ◌++◌, IsTrue, refl, sym, ◌∙◌, subst, append-nil, arith}
 use Rattle.tdb_base.specs.Trace.{WrittenPiece}
 use Rattle.tdb_model.specs.Apply.{History}
 use Rattle.tdb_platform.specs.Outside.{Anchor, Outside}
@@ -33,17 +33,30 @@ sealed_none : (secret : List ℕ) (old new : Outside) → (IsTrue old.tells → 
 sealed_none secret old new same told = record { more = []; written = same told ∙ sym (append-nil old.trace.written); each = λ k d within. absurd (omega (arith, within)) }
 
 -- where nothing was read
-pub none_at_end : (status : Status) (old new : Outside) → new.trace.read ≡ old.trace.read → ReadsAtEnd status old new
-none_at_end Memory old new none = inl none
-none_at_end (Done success) old new none = none
-none_at_end Usage old new none = none
-none_at_end (AnchorCount formatted) old new none = none
-none_at_end (Damaged finding) old new none = none
-none_at_end PlatformFault old new none = none
-none_at_end SourceFault old new none = none
-none_at_end SinkFault old new none = none
-none_at_end End old new none = none
-none_at_end (Refused refusal) old new none = none
+pub none_at_end : (gets : Type 0) (status : Status) (old new : Outside) → new.trace.read ≡ old.trace.read → ReadsAtEnd gets status old new
+none_at_end gets Memory old new none = inl none
+none_at_end gets (Done success) old new none = none
+none_at_end gets Usage old new none = none
+none_at_end gets (AnchorCount formatted) old new none = none
+none_at_end gets (Damaged finding) old new none = none
+none_at_end gets PlatformFault old new none = none
+none_at_end gets SourceFault old new none = none
+none_at_end gets SinkFault old new none = none
+none_at_end gets End old new none = none
+none_at_end gets (Refused refusal) old new none = none
+
+-- a line that gets a record by a weaker test too
+pub ends_weaker : (P Q : Type 0) (status : Status) (old new : Outside) → (P → Q) → ReadsAtEnd P status old new → ReadsAtEnd Q status old new
+ends_weaker P Q Memory old new weaker is = ⊎_elim (λ none. inl none) (λ one. inr (weaker one.0, one.1)) is
+ends_weaker P Q (Done success) old new weaker is = is
+ends_weaker P Q Usage old new weaker is = is
+ends_weaker P Q (AnchorCount formatted) old new weaker is = is
+ends_weaker P Q (Damaged finding) old new weaker is = is
+ends_weaker P Q PlatformFault old new weaker is = is
+ends_weaker P Q SourceFault old new weaker is = is
+ends_weaker P Q SinkFault old new weaker is = is
+ends_weaker P Q End old new weaker is = is
+ends_weaker P Q (Refused refusal) old new weaker is = is
 
 -- A store knows a state as long as the trace of writes and the anchor stay.
 pub knows_still : (o n : Outside) (kept : chunk.Store) (last : StoreState) → n.trace.written ≡ o.trace.written → n.anchor ≡ o.anchor → Knows o kept last → Knows n kept last
@@ -128,8 +141,8 @@ module _ {D : Type 0} (outside : D → Outside) (crash_states : D → CrashState
     not_committed changes = record { maybe = []; of_changes = inl refl; log = all_of; left = left_now; any_moment = part_left [] }
 
     -- a line that isn't answered
-    pub stopped_reading : (is_answer : Answer → Type 0) (status : Status) → ReadsAtEnd status (outside old) (outside new) → StoppedBy outside crash_states store old new history is_answer status
-    stopped_reading is_answer status ends = record {
+    pub stopped_reading : (is_answer : Answer → Type 0) (gets : Type 0) (status : Status) → ReadsAtEnd gets status (outside old) (outside new) → StoppedBy outside crash_states store old new history is_answer gets status
+    stopped_reading is_answer gets status ends = record {
       maybe = [];
       of_line = inl refl;
       reads = ends;
@@ -147,11 +160,11 @@ module _ {D : Type 0} (outside : D → Outside) (crash_states : D → CrashState
       let given = pure told sound history state log at in
       answered_reading store old new reads told settled history state.store log state (is_answer state) given.0 reply kept next refl given.1 given.2 at.store
 
-  pub stopped_pure : (store : Store) (old new : D) (kept : chunk.Store) (made : session.Session) (is_answer : ScriptState → Answer → Type 0) (status : Status)
-      → OnlyReads outside crash_states old new → IsSettled outside crash_states old → Premised outside old new store kept made (λ history state. ReadsAtEnd status (outside old) (outside new))
-      → Premised outside old new store kept made (λ history state. StoppedBy outside crash_states store old new history (is_answer state) status)
-  stopped_pure store old new kept made is_answer status reads settled ends told sound history state log at =
-      stopped_reading store old new reads told settled history state.store log (is_answer state) status (ends told sound history state log at)
+  pub stopped_pure : (store : Store) (old new : D) (kept : chunk.Store) (made : session.Session) (is_answer : ScriptState → Answer → Type 0) (gets : ScriptState → Type 0) (status : Status)
+      → OnlyReads outside crash_states old new → IsSettled outside crash_states old → Premised outside old new store kept made (λ history state. ReadsAtEnd (gets state) status (outside old) (outside new))
+      → Premised outside old new store kept made (λ history state. StoppedBy outside crash_states store old new history (is_answer state) (gets state) status)
+  stopped_pure store old new kept made is_answer gets status reads settled ends told sound history state log at =
+      stopped_reading store old new reads told settled history state.store log (is_answer state) (gets state) status (ends told sound history state log at)
 
   -- nothing happened
   pub reads_same : (old new : D) → new ≡ old → OnlyReads outside crash_states old new
@@ -168,10 +181,10 @@ module _ {D : Type 0} (outside : D → Outside) (crash_states : D → CrashState
       subst (λ (k : chunk.Store). AnsweredBy outside crash_states store old new history (is_answer state) reply k next) (sym same_store)
       (pure_line store old new kept made next is_answer reply (reads_same old new same) settled pure told sound history state log at)
 
-  pub still_stopped : (store : Store) (p : D) (kept : chunk.Store) (made : session.Session) (is_answer : ScriptState → Answer → Type 0) (status : Status) → IsSettled outside crash_states p
-      → Premised outside p p store kept made (λ history state. StoppedBy outside crash_states store p p history (is_answer state) status)
-  still_stopped store p kept made is_answer status settled =
-      stopped_pure store p p kept made is_answer status (reads_nothing outside crash_states counts p) settled (λ told sound history state log at. none_at_end status (outside p) (outside p) refl)
+  pub still_stopped : (store : Store) (p : D) (kept : chunk.Store) (made : session.Session) (is_answer : ScriptState → Answer → Type 0) (gets : ScriptState → Type 0) (status : Status) → IsSettled outside crash_states p
+      → Premised outside p p store kept made (λ history state. StoppedBy outside crash_states store p p history (is_answer state) (gets state) status)
+  still_stopped store p kept made is_answer gets status settled =
+      stopped_pure store p p kept made is_answer gets status (reads_nothing outside crash_states counts p) settled (λ told sound history state log at. none_at_end (gets state) status (outside p) (outside p) refl)
 
   pub still_whole : (store : Store) (old new : D) (kept : chunk.Store) → new ≡ old → ScriptWhole outside old new store kept
   still_whole store old new kept same told sound history from log at intact = along (λ ws a. IsIntact ws store a) old new told (reads_same old new same) intact

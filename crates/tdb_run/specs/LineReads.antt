@@ -1,9 +1,10 @@
 -- What each line of a script reads from the device.
-use Rattle.std.specs.Prelude.{◌≡◌, ◌⊎◌, ◌==◌, ◌&&◌, ℕ, Bool, true, false, [], ◌∷◌, ◌++◌, Option, Some, None, is_some, is_none}
+use Rattle.std.specs.Prelude.{◌≡◌, ◌⊎◌, ◌==◌, ◌&&◌, ℕ, Bool, IsTrue, true, false, List, [], ◌∷◌, ◌++◌, Option, Some, None, is_some, is_none}
 use Rattle.tdb_base.specs.Trace.{ReadPiece}
 use Rattle.tdb_model.specs.Lookup.{chunk_at}
 use Rattle.tdb_platform.specs.Outside.{Outside}
-use Rattle.tdb_script.specs.LineSpelling.{LineValue, begin, new_note, get, abort, commit, quit}
+use Rattle.tdb_script.specs.LineSpelling.{LineValue, IsLine, begin, new_note, get, abort, commit, quit}
+use Rattle.tdb_run.specs.Gave.{HasNoLineFeed}
 use Rattle.tdb_run.specs.Script.{ScriptState, Transaction, own_note}
 use Rattle.tdb_run.specs.declared.status.Status.{Status}
 use Rattle.tdb_run.specs.declared.status.Status.TheVariants.{Memory}
@@ -27,7 +28,15 @@ abbrev pub HasReadFor : Bool → Outside → Outside → Type 0
 HasReadFor true old new = (piece : ReadPiece) × (new.trace.read ≡ old.trace.read ++ piece ∷ [])
 HasReadFor false old new = new.trace.read ≡ old.trace.read
 
--- What is read behind the last answer: nothing, and where memory runs out at most one piece.
-abbrev pub ReadsAtEnd : Status → Outside → Outside → Type 0
-ReadsAtEnd Memory old new = HasReadFor false old new ⊎ HasReadFor true old new
-ReadsAtEnd status old new = HasReadFor false old new
+-- these bytes are a line that gets a record
+abbrev pub GetsRecord : ScriptState → List ℕ → Type 0
+GetsRecord state bytes = (line : LineValue) × IsLine bytes line × IsTrue (gets_record state line)
+
+-- so is the first line of these
+abbrev pub FirstGetsRecord : ScriptState → List ℕ → Type 0
+FirstGetsRecord state unanswered = (line : List ℕ) × (later : List ℕ) × (unanswered ≡ line ++ 10 ∷ later) × HasNoLineFeed line × GetsRecord state line
+
+-- What is read where a line isn't answered: nothing, but one piece where memory runs out and the line gets a record.
+abbrev pub ReadsAtEnd : Type 0 → Status → Outside → Outside → Type 0
+ReadsAtEnd gets Memory old new = HasReadFor false old new ⊎ (gets × HasReadFor true old new)
+ReadsAtEnd gets status old new = HasReadFor false old new

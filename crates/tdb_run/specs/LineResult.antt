@@ -9,7 +9,7 @@ use Rattle.tdb_overlay.specs.Found.{Store}
 use Rattle.tdb_overlay.specs.Intact.{IsIntact}
 use Rattle.tdb_overlay.specs.Log.{IsLog}
 use Rattle.tdb_overlay.specs.StoreState.{StoreState}
-use Rattle.tdb_run.specs.LineReads.{ReadsAtEnd}
+use Rattle.tdb_run.specs.LineReads.{GetsRecord, ReadsAtEnd}
 use Rattle.tdb_run.specs.Script.{Answer, ScriptState}
 use Rattle.tdb_run.specs.Session.{AnswersBetween}
 use Rattle.tdb_run.specs.SessionState.{IsScriptAt}
@@ -46,17 +46,17 @@ abbrev pub IsOfLine : (Answer → Type 0) → History → Type 0
 IsOfLine is_answer maybe = (maybe ≡ []) ⊎ ((given : Answer) × is_answer given × (maybe ≡ given.added))
 
 -- The line wasn't answered. Its commit may have been made.
-pub record StoppedBy {D : Type 0} (outside : D → Outside) (crash_states : D → CrashStates) (store : Store) (old new : D) (history : History) (is_answer : Answer → Type 0) (status : Status) : Type 0 where
+pub record StoppedBy {D : Type 0} (outside : D → Outside) (crash_states : D → CrashStates) (store : Store) (old new : D) (history : History) (is_answer : Answer → Type 0) (gets : Type 0) (status : Status) : Type 0 where
   pub maybe : History
   pub of_line : IsOfLine is_answer maybe
-  pub reads : ReadsAtEnd status (outside old) (outside new)
+  pub reads : ReadsAtEnd gets status (outside old) (outside new)
   pub log : HasAllOf (outside new).trace.written store history [] maybe (outside new).anchor
   pub left : (i : List ℕ) (a : Anchor) → now outside crash_states new i a → HasAllOf (outside new).trace.written store history [] maybe a
   pub any_moment : LeavesOnly outside crash_states old new (λ i a. HasPartOf (outside new).trace.written store history maybe a)
 
 abbrev pub LineStopped : {D : Type 0} → (D → Outside) → (D → CrashStates) → Store → D → D → History → ScriptState → List ℕ → Status → Type 0
 LineStopped outside crash_states store old new history state line status =
-    StoppedBy outside crash_states store old new history (λ given. AnswersBetween store (outside old) (outside new) state line given) status
+    StoppedBy outside crash_states store old new history (λ given. AnswersBetween store (outside old) (outside new) state line given) (GetsRecord state line) status
 
 -- What holds of each state of a script that the store and the session stand for, and its log.
 abbrev pub Premised : {D : Type 0} → (D → Outside) → D → D → Store → chunk.Store → session.Session → (History → ScriptState → Type 0) → Type 0

@@ -12,7 +12,7 @@ use Rattle.tdb_stream.specs.SinkContent.{SinkContent}
 use Rattle.tdb_stream.specs.SourceContent.{SourceContent}
 use Rattle.tdb_overlay.specs.Found.{Store}
 use Rattle.tdb_run.specs.Gave.{HasNoLineFeed}
-use Rattle.tdb_run.specs.LineReads.{ReadsAtEnd}
+use Rattle.tdb_run.specs.LineReads.{FirstGetsRecord, ReadsAtEnd}
 use Rattle.tdb_run.specs.LineResult.{HasAllOf, HasPartOf}
 use Rattle.tdb_run.specs.Replies.{Conversation, HasAnswered, HasCut, replies_text}
 use Rattle.tdb_run.specs.Script.{Answer, ScriptState}
@@ -48,7 +48,7 @@ NoneAtDone (Refused refusal) maybe = Unit {0}
 -- There is no answer to the next line, or this one: its commit may have been made, and its reply not put whole.
 abbrev pub IsOfNext : Store → Outside → Outside → Status → ScriptState → List ℕ → Option Reply → History → Type 0
 IsOfNext store old new status last unanswered next maybe =
-    ((next ≡ None) × (maybe ≡ []) × ReadsAtEnd status old new)
+    ((next ≡ None) × (maybe ≡ []) × ReadsAtEnd (FirstGetsRecord last unanswered) status old new)
     ⊎ ((line : List ℕ) × (later : List ℕ) × (given : Answer) × (unanswered ≡ line ++ 10 ∷ later) × HasNoLineFeed line × AnswersBetween store old new last line given
     × (maybe ≡ given.added) × ((next ≡ None) ⊎ (next ≡ Some given.reply)))
 

@@ -11,7 +11,7 @@ ghost use Rattle.tdb_chunk.specs.Committing.{is_refusal};
 ghost use Rattle.tdb_chunk.specs.Known.{store_of};
 ghost use Rattle.tdb_model.specs.declared.error.CommitError.TheVariants as errors;
 ghost use Rattle.tdb_run.specs.declared.status.Status.TheVariants.{Memory, PlatformFault};
-ghost use Rattle.tdb_run.specs.LineReads.{HasReadFor, ReadsAtEnd, needs_record};
+ghost use Rattle.tdb_run.specs.LineReads.{HasReadFor, ReadsAtEnd, gets_record, needs_record};
 ghost use Rattle.tdb_run.specs.LineResult.{AnsweredBy, LineAnswered, LineStopped, Premised, StaysWhole, StoppedBy};
 ghost use Rattle.tdb_run.specs.NotesCommit.{IsCommitted, IsRefused, MayBeCommitted};
 ghost use Rattle.tdb_run.specs.Opened.{GoesOn, IsOpened};
@@ -80,7 +80,7 @@ fn answer_line<P: Platform>(
     ensures stopped { IfErr result (λ status. IsStopOfLine (P.outside platform.old) (P.outside platform.new) status) }
     ensures stopped_at { IfErr result (λ status. Premised P.outside platform.old platform.new (store_of store.old) store.old session.old
         (λ history state. StoppedBy P.outside P.crash_states (store_of store.old) platform.old platform.new history
-        (λ given. IsAnswerBetween (store_of store.old) (P.outside platform.old) (P.outside platform.new) state (value_of_line line.entry) given) status)) }
+        (λ given. IsAnswerBetween (store_of store.old) (P.outside platform.old) (P.outside platform.new) state (value_of_line line.entry) given) (IsTrue (gets_record state (value_of_line line.entry))) status)) }
     ensures opened { OnOk result (IsOpened P.outside P.crash_states platform.new store.new) }
     ensures same_store { OnOk result (store_of store.new ≡ store_of store.old) }
     ensures goes_on { GoesOn (store_of store.old) (P.outside platform.old) (P.outside platform.new) }
@@ -133,7 +133,8 @@ fn get_note<P: Platform>(
     ensures once { IfOk result (λ reply. OverLog P.outside platform.old platform.new (store_of store.now) store.now (λ history from. (state : ScriptState) → state.store ≡ from → IsSessionAt session.now state
         → HasReadFor (needs_record state number.0 id.0 state.transaction) (P.outside platform.old) (P.outside platform.new))) }
     ensures stopped { IfErr result (λ status. IsStopOfLine (P.outside platform.old) (P.outside platform.new) status) }
-    ensures stopped_reads { IfErr result (λ status. OverLog P.outside platform.old platform.new (store_of store.now) store.now (λ history from. ReadsAtEnd status (P.outside platform.old) (P.outside platform.new))) }
+    ensures stopped_reads { IfErr result (λ status. OverLog P.outside platform.old platform.new (store_of store.now) store.now (λ history from. (state : ScriptState) → state.store ≡ from → IsSessionAt session.now state
+        → ReadsAtEnd (IsTrue (needs_record state number.0 id.0 state.transaction)) status (P.outside platform.old) (P.outside platform.new))) }
     ensures reads { OnlyReads P.outside P.crash_states platform.old platform.new }
 {
     let Some(open) = session.open(number) else {
@@ -162,7 +163,8 @@ fn get_committed<P: Platform>(
     ensures once { IfOk result (λ reply. OverLog P.outside platform.old platform.new (store_of store.now) store.now
         (λ history from. HasReadFor (is_some (chunk_at from.chunks 1 id.0)) (P.outside platform.old) (P.outside platform.new))) }
     ensures stopped { IfErr result (λ status. IsStopOfLine (P.outside platform.old) (P.outside platform.new) status) }
-    ensures stopped_reads { IfErr result (λ status. OverLog P.outside platform.old platform.new (store_of store.now) store.now (λ history from. ReadsAtEnd status (P.outside platform.old) (P.outside platform.new))) }
+    ensures stopped_reads { IfErr result (λ status. OverLog P.outside platform.old platform.new (store_of store.now) store.now
+        (λ history from. ReadsAtEnd (IsTrue (is_some (chunk_at from.chunks 1 id.0))) status (P.outside platform.old) (P.outside platform.new))) }
     ensures reads { OnlyReads P.outside P.crash_states platform.old platform.new }
 {
     match store.read(alloc, platform, NOTES_PART, id) {
@@ -211,7 +213,7 @@ fn commit<P: Platform>(
     ensures stopped { IfErr result (λ status. IsStopOfLine (P.outside platform.old) (P.outside platform.new) status) }
     ensures stopped_at { IfErr result (λ status. Premised P.outside platform.old platform.new (store_of store.old) store.old session.old
         (λ history state. StoppedBy P.outside P.crash_states (store_of store.old) platform.old platform.new history
-        (λ given. given ≡ in_transaction state number.0 (λ t. commit_answer (store_of store.old) state t (changes_of t.notes)) state.transaction) status)) }
+        (λ given. given ≡ in_transaction state number.0 (λ t. commit_answer (store_of store.old) state t (changes_of t.notes)) state.transaction) ⊥ status)) }
     ensures unread { IsTrue (P.outside platform.old).tells → (P.outside platform.new).trace.read ≡ (P.outside platform.old).trace.read }
     ensures opened { OnOk result (IsOpened P.outside P.crash_states platform.new store.new) }
     ensures same_store { OnOk result (store_of store.new ≡ store_of store.old) }

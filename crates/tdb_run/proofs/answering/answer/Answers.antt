@@ -21,7 +21,7 @@ returns-in-Some-clause-stopped_at g c =
     IfErr-weaker c.answer_line.result _ _
     (λ status stopped told sound history state log at.
     stopped_weaker g.P.Platform.outside g.P.Platform.crash_states (store_of c.args.store.now) c.args.platform.now c.answer_line.new.platform history _ _
-    (λ given is. inl (value_of_line c.in-Some.line, c.in-Some.ensures.found, is)) status (stopped told sound history state log at))
+    (λ given is. inl (value_of_line c.in-Some.line, c.in-Some.ensures.found, is)) _ _ status (λ gets. (value_of_line c.in-Some.line, c.in-Some.ensures.found, gets)) (stopped told sound history state log at))
     c.answer_line.ensures.stopped_at
 
 pub returns-in-None-clause-answered : goal.returns-in-None-clause-answered

@@ -1,9 +1,10 @@
 use Rattle.std.proofs.Common.{refl, sym, subst}
-use Rattle.std.specs.Prelude.{IfErr, IfOk}
+use Rattle.std.specs.Prelude.{IfErr, IfOk, IsTrue}
 use Rattle.std.proofs.lemmas.Result.{IfErr-weaker, IfOk-weaker}
 use Rattle.tdb_script.specs.LineValue.{value_of_line}
 use Rattle.tdb_script.specs.declared.line.Line.{Line}
 use Rattle.tdb_chunk.specs.Known.{store_of}
+use Rattle.tdb_run.specs.LineReads.{ReadsAtEnd, gets_record}
 use Rattle.tdb_run.specs.LineResult.{AnsweredBy, Premised, StoppedBy}
 use Rattle.tdb_run.specs.Script.{abort_answer, begin_answer, in_transaction, new_answer, replied}
 use Rattle.tdb_script.specs.declared.reply.Reply.TheVariants.{Bye}
@@ -64,7 +65,7 @@ returns-in-Err-clause-stopped_at g c =
     let p = c.args.platform.now in
     let o = g.P.Platform.outside p in
     let store = store_of c.args.store.now in
-    still_stopped g.P.Platform.outside g.P.Platform.crash_states g.met.P.Platform.counts store p c.args.store.now c.args.session.now (IsLineAnswer store o o (value_of_line c.args.line)) _ c.requires.opened.settled
+    still_stopped g.P.Platform.outside g.P.Platform.crash_states g.met.P.Platform.counts store p c.args.store.now c.args.session.now (IsLineAnswer store o o (value_of_line c.args.line)) (λ state. IsTrue (gets_record state (value_of_line c.args.line))) _ c.requires.opened.settled
 
 pub returns-in-Err-clause-goes_on : goal.returns-in-Err-clause-goes_on
 returns-in-Err-clause-goes_on g c = still_goes_on g.P.Platform.outside g.P.Platform.crash_states g.met.P.Platform.counts (store_of c.args.store.now) c.args.platform.now
@@ -93,8 +94,10 @@ returns-in-Get-clause-stopped_at g c =
     let store = store_of c.args.store.now in
     IfErr-weaker c.get_note.result _ _
     (λ status ends. stopped_pure g.P.Platform.outside g.P.Platform.crash_states g.met.P.Platform.counts store old new c.args.store.now c.args.session.now
-    (IsLineAnswer store (g.P.Platform.outside old) (g.P.Platform.outside new) (value_of_line c.args.line)) status c.get_note.ensures.reads c.requires.opened.settled
-    (λ told sound history state log at. ends told sound history state.store log at.store))
+    (IsLineAnswer store (g.P.Platform.outside old) (g.P.Platform.outside new) (value_of_line c.args.line)) (λ state. IsTrue (gets_record state (value_of_line c.args.line))) status c.get_note.ensures.reads c.requires.opened.settled
+    (λ told sound history state log at.
+    subst (λ (l : Line). ReadsAtEnd (IsTrue (gets_record state (value_of_line l))) status (g.P.Platform.outside old) (g.P.Platform.outside new)) (sym c.in-Get.is)
+    (ends told sound history state.store log at.store state refl at.session)))
     c.get_note.ensures.stopped_reads
 
 pub returns-in-Commit-clause-answered : goal.returns-in-Commit-clause-answered
@@ -121,9 +124,9 @@ returns-in-Commit-clause-stopped_at g c =
     let store = store_of kept in
     subst
     (λ (l : Line). IfErr c.commit.result (λ status. Premised g.P.Platform.outside old new store kept c.args.session.now (λ history state.
-    StoppedBy g.P.Platform.outside g.P.Platform.crash_states store old new history (IsLineAnswer store (g.P.Platform.outside old) (g.P.Platform.outside new) (value_of_line l) state) status)))
+    StoppedBy g.P.Platform.outside g.P.Platform.crash_states store old new history (IsLineAnswer store (g.P.Platform.outside old) (g.P.Platform.outside new) (value_of_line l) state) (IsTrue (gets_record state (value_of_line l))) status)))
     (sym c.in-Commit.is)
     (IfErr-weaker c.commit.result _ _
     (λ status stopped told sound history state log at.
-    stopped_weaker g.P.Platform.outside g.P.Platform.crash_states store old new history _ _ (λ given is. (is, c.commit.ensures.unread told)) status (stopped told sound history state log at))
+    stopped_weaker g.P.Platform.outside g.P.Platform.crash_states store old new history _ _ (λ given is. (is, c.commit.ensures.unread told)) _ _ status (λ none. absurd none) (stopped told sound history state log at))
     c.commit.ensures.stopped_at)

@@ -41,7 +41,7 @@ chunks_of-requires g c = subst (AllByRecursion (λ (n : NewNote). n.id.0 < 26214
 pub returns-in_default-chunks_of-clause-stopped_at : goal.returns-in_default-chunks_of-clause-stopped_at
 returns-in_default-chunks_of-clause-stopped_at g c =
     let store = store_of c.args.store.now in
-    still_stopped g.P.Platform.outside g.P.Platform.crash_states g.met.P.Platform.counts store c.args.platform.now c.args.store.now c.args.session.now (λ state. IsCommitAnswer store state c.args.number) _ c.requires.opened.settled
+    still_stopped g.P.Platform.outside g.P.Platform.crash_states g.met.P.Platform.counts store c.args.platform.now c.args.store.now c.args.session.now (λ state. IsCommitAnswer store state c.args.number) (λ state. ⊥) _ c.requires.opened.settled
 
 pub returns-in_default-chunks_of-clause-goes_on : goal.returns-in_default-chunks_of-clause-goes_on
 returns-in_default-chunks_of-clause-goes_on g c = still_goes_on g.P.Platform.outside g.P.Platform.crash_states g.met.P.Platform.counts (store_of c.args.store.now) c.args.platform.now
@@ -79,8 +79,8 @@ returns-clause-stopped_at g c told sound history state log at =
     let are : writes_of notes_part chunks ≡ changes_of (notes_of c.in-Some.open.now.notes.items) =
     ap (writes_of notes_part) c.deref-2.ensures.value ∙ c.in-Ok.ensures.writes ∙ ap (λ (ns : List NewNote). changes_of (notes_of ns)) c.deref.ensures.value in
     stopped_line (store_of c.args.store.now) c.args.session.now c.args.number c.in-Some.open.now (sym c.in-Some.ensures) state at.session (writes_of notes_part chunks) some are
-    g.P.Platform.outside g.P.Platform.crash_states c.args.platform.now c.commit_notes.new.platform history _
-    (none_at_end _ (g.P.Platform.outside c.args.platform.now) (g.P.Platform.outside c.commit_notes.new.platform) (c.commit_notes.ensures.unread told)) (c.in-Err.ensures.stopped_at told sound history state.store log at.store)
+    g.P.Platform.outside g.P.Platform.crash_states c.args.platform.now c.commit_notes.new.platform history _ _
+    (none_at_end _ _ (g.P.Platform.outside c.args.platform.now) (g.P.Platform.outside c.commit_notes.new.platform) (c.commit_notes.ensures.unread told)) (c.in-Err.ensures.stopped_at told sound history state.store log at.store)
 
 pub returns-clause-whole : goal.returns-clause-whole
 returns-clause-whole g c told sound history state log at = c.commit_notes.ensures.whole told sound history state.store log at.store

@@ -3,7 +3,7 @@ use Rattle.tdb_model.specs.Lookup.{chunk_at}
 use Rattle.std.specs.Prelude.{is_some}
 use Rattle.tdb_run.specs.LineReads.{HasReadFor}
 use Rattle.tdb_run.specs.Script.{IsChunkReply}
-use Rattle.tdb_run.proofs.DamagedObjects.{at_most_one, damaged_is_there, damaged_object, one_read}
+use Rattle.tdb_run.proofs.DamagedObjects.{at_most_one, damaged_is_there, damaged_object, is_there, one_read}
 use Rattle.tdb_run.proofs.answering.get_committed.Goals as goal
 
 pub returns-in-Ok-chunk_reply-clause-answered : goal.returns-in-Ok-chunk_reply-clause-answered
@@ -41,9 +41,14 @@ pub returns-in-Err-Form-clause-once : goal.returns-in-Err-Form-clause-once
 returns-in-Err-Form-clause-once g c told sound history from log knows = absurd (c.in-Err-Form.ensures.form told sound from knows c.in-Err-Form.field-0-0 (ap Err c.in-Err-Form.field-0-is))
 
 pub returns-in-Ok-clause-stopped_reads : goal.returns-in-Ok-clause-stopped_reads
-returns-in-Ok-clause-stopped_reads g c told sound history from log knows =
-    inr (one_read c.args.store.now (g.P.Platform.outside c.args.platform.now) (g.P.Platform.outside c.read.new.platform) (c.in-Ok.ensures.once told from knows))
+returns-in-Ok-clause-stopped_reads g c told sound history from log knows = inr (
+  ap is_some (c.in-Ok.ensures.chunk told sound from knows),
+  one_read c.args.store.now (g.P.Platform.outside c.args.platform.now) (g.P.Platform.outside c.read.new.platform) (c.in-Ok.ensures.once told from knows),
+)
 
 pub returns-in-Err-Memory-clause-stopped_reads : goal.returns-in-Err-Memory-clause-stopped_reads
 returns-in-Err-Memory-clause-stopped_reads g c told sound history from log knows =
-    at_most_one c.args.store.now (g.P.Platform.outside c.args.platform.now) (g.P.Platform.outside c.read.new.platform) (c.in-Err-Memory.ensures.at_most_once told from knows)
+    at_most_one c.args.store.now (g.P.Platform.outside c.args.platform.now) (g.P.Platform.outside c.read.new.platform) _
+    (is_there (Err c.in-Err-Memory.field-0) from c.args.id.0 (λ is. absurd (cc (is, c.in-Err-Memory.field-0-is))) (λ is. absurd (cc (is, c.in-Err-Memory.field-0-is)))
+    (c.in-Err-Memory.ensures.no_partition from knows).1 (c.in-Err-Memory.ensures.no_chunk from knows).1)
+    (c.in-Err-Memory.ensures.at_most_once told from knows)

@@ -1,11 +1,11 @@
 use Rattle.std.proofs.Common.{ℕ, Bool, None, refl, sym, ◌∙◌, ap, subst}
-use Rattle.std.proofs.lemmas.Result.{IfOk-weaker}
+use Rattle.std.proofs.lemmas.Result.{IfErr-weaker, IfOk-weaker}
 use Rattle.tdb_overlay.proofs.ReadingLaws.{reads_nothing}
 use Rattle.tdb_chunk.specs.Known.{store_of}
-use Rattle.std.specs.Prelude.{is_some}
+use Rattle.std.specs.Prelude.{IsTrue, is_some}
 use Rattle.tdb_model.specs.Lookup.{chunk_at}
 use Rattle.tdb_overlay.specs.StoreState.{StoreState}
-use Rattle.tdb_run.specs.LineReads.{HasReadFor}
+use Rattle.tdb_run.specs.LineReads.{HasReadFor, ReadsAtEnd}
 use Rattle.tdb_run.specs.Session.{IsDamagedObject}
 use Rattle.tdb_run.proofs.Transactions.{chunk_answer, needs_by, unneeded_in}
 use Rattle.tdb_run.proofs.answering.get_note.Goals as goal
@@ -52,3 +52,15 @@ returns-clause-once g c =
     ∙ ap (λ (s : StoreState). is_some (chunk_at s.chunks 1 c.args.id.0)) same))
     (once told sound history from log at))
     c.get_committed.ensures.once
+
+pub returns-clause-stopped_reads : goal.returns-clause-stopped_reads
+returns-clause-stopped_reads g c =
+    let old = g.P.Platform.outside c.args.platform.now in
+    let new = g.P.Platform.outside c.get_committed.new.platform in
+    IfErr-weaker c.get_committed.result _ _
+    (λ status ends told sound history from log at state same in_session.
+    subst (λ (b : Bool). ReadsAtEnd (IsTrue b) status old new)
+    (sym (needs_by c.args.session.now c.args.number c.in-Some.open.now (sym c.in-Some.ensures) state in_session c.args.id.0 None (sym c.in_default-own.ensures)
+    ∙ ap (λ (s : StoreState). is_some (chunk_at s.chunks 1 c.args.id.0)) same))
+    (ends told sound history from log at))
+    c.get_committed.ensures.stopped_reads
