@@ -63,20 +63,22 @@ module _ {D : Type 0} (outside : D → Outside) (crash_states : D → CrashState
   module _ (new : D) (grows : Extends (outside mid).trace (outside new).trace) (line later : List ℕ) (status : Status) (unanswered : c.unanswered ≡ line ++ 10 ∷ later) (no_line_feed : HasNoLineFeed line) (none_at_done : (maybe : History) → NoneAtDone status maybe) where
     -- the next line was read, and not answered
     pub ran_stopped : c.next ≡ None → LineStopped outside crash_states store mid new (history ++ added_by s.answers) s.last line status → ScriptRan outside crash_states store c old new history first status
-    ran_stopped none stopped = record {
-      answers = s.answers;
-      moment = outside mid;
-      last = s.last;
-      session = s.session;
-      goes_on = grows;
-      replies = s.replies_are;
-      maybe = stopped.maybe;
-      of_next = ⊎_elim (λ nothing. inl (none, nothing, ends_weaker _ _ status (outside mid) (outside new) (λ gets. (line, later, unanswered, no_line_feed, gets)) stopped.reads)) (λ made. inr (line, later, made.0, unanswered, no_line_feed, made.1, made.2, inl none)) stopped.of_line;
-      none_at_done = none_at_done stopped.maybe;
-      log = all_behind store (outside new).anchor (outside new).trace.written history (added_by s.answers) stopped.maybe stopped.log;
-      left = λ i a left. all_behind store a (outside new).trace.written history (added_by s.answers) stopped.maybe (stopped.left i a left);
-      any_moment = part_along outside crash_states counts store old mid new history first c.lines c.replies kept made s grows stopped.maybe stopped.any_moment;
-    }
+    ran_stopped none stopped =
+        let reads = ends_weaker _ _ status (outside mid) (outside new) (λ gets. (line, later, unanswered, no_line_feed, gets)) stopped.reads in
+        record {
+          answers = s.answers;
+          moment = outside mid;
+          last = s.last;
+          session = s.session;
+          goes_on = grows;
+          replies = s.replies_are;
+          maybe = stopped.maybe;
+          of_next = ⊎_elim (λ nothing. inl (none, nothing, reads)) (λ made. inr (line, later, made.0, unanswered, no_line_feed, made.1, made.2, inl (none, reads))) stopped.of_line;
+          none_at_done = none_at_done stopped.maybe;
+          log = all_behind store (outside new).anchor (outside new).trace.written history (added_by s.answers) stopped.maybe stopped.log;
+          left = λ i a left. all_behind store a (outside new).trace.written history (added_by s.answers) stopped.maybe (stopped.left i a left);
+          any_moment = part_along outside crash_states counts store old mid new history first c.lines c.replies kept made s grows stopped.maybe stopped.any_moment;
+        }
 
     -- the next line was answered, and its reply not put whole
     pub ran_cut : (reply : Reply) (kept' : memory.Store) (made' : session.Session) → c.next ≡ Some reply → IsTrue (outside new).tells → IsSettled outside crash_states new

@@ -110,7 +110,8 @@ refusal_of Ring = refusals.RingFull
 refusal_of Counter = refusals.CounterEnd
 
 -- What the device or the store did, where a run says so: damage is that of a text, the table or a list that the log needs;
--- each piece that has its digest fits the others; and the commit that makes the partitions is refused by its cause.
+-- `form` comes only where partitions 1 and 2 are otherwise than a run makes them, and names the last text's slot; and the
+-- commit that makes the partitions is refused by its cause.
 abbrev pub IsExplainedStop : Store → Outside → Outside → StoreState → Status → Type 0
 IsExplainedStop store old new from (Damaged (Tampered damage)) = IsDamageOf old new (IsOpeningPiece old.trace.written store old.anchor) damage
 IsExplainedStop store old new from (Damaged (Form place)) = (HasUserPartitions from.chunks → ⊥) × (place.0 ≡ slot_place from.count)

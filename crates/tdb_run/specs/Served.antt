@@ -50,7 +50,7 @@ abbrev pub IsOfNext : Store → Outside → Outside → Status → ScriptState �
 IsOfNext store old new status last unanswered next maybe =
     ((next ≡ None) × (maybe ≡ []) × ReadsAtEnd (FirstGetsRecord last unanswered) status old new)
     ⊎ ((line : List ℕ) × (later : List ℕ) × (given : Answer) × (unanswered ≡ line ++ 10 ∷ later) × HasNoLineFeed line × AnswersBetween store old new last line given
-    × (maybe ≡ given.added) × ((next ≡ None) ⊎ (next ≡ Some given.reply)))
+    × (maybe ≡ given.added) × (((next ≡ None) × ReadsAtEnd (FirstGetsRecord last unanswered) status old new) ⊎ (next ≡ Some given.reply)))
 
 -- Over a store that had a log, a script is a session: each line is answered by what stood then, each commit that was
 -- answered stands in the log of the anchor and of each anchor that a stop may leave, and behind them at most the next line's.

@@ -72,7 +72,8 @@ pub fn run<S: Source, K: Sink, P: Platform>(
     ensures already_untouched { IsOfNewStore (texts words.now) → IsTrue (P.outside platform).tells → (P.outside platform).anchor.0 ≢ 0
         → IsUnwritten (P.outside platform) (P.outside result.platform) × (source.new ≡ source.old) }
 
-    // What the log of the anchor needs stands where it was written: nothing was written over it since.
+    // Where all that the anchor's log needed stood as it was written, all that it needs now does: nothing was written over
+    // it.
     ensures intact { (store : Store) → store.secret ≡ secret.now → StaysIntact store (P.outside platform) (P.outside result.platform) }
 
     // Whatever goes to the device is a sealed record in a segment, or a commit text with its tag in a slot.
