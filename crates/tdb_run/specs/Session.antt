@@ -33,7 +33,7 @@ abbrev pub IsAnswerBetween : Store → Outside → Outside → ScriptState → L
 IsAnswerBetween store old new state line given =
     IsAnswer store (λ id. IsDamagedObject store old new state.store.chunks id) state line given × HasReadFor (gets_record state line) old new
 
--- A line's bytes are. Bytes of no line are a line that isn't built, and read nothing.
+-- The same of a line's bytes. Bytes of no line are a line that isn't built, and nothing is read.
 abbrev pub AnswersBetween : Store → Outside → Outside → ScriptState → List ℕ → Answer → Type 0
 AnswersBetween store old new state bytes given =
     ((line : LineValue) × IsLine bytes line × IsAnswerBetween store old new state line given)
@@ -41,8 +41,7 @@ AnswersBetween store old new state bytes given =
 
 -- From a first moment, history and state on, these lines are given these answers. Each is given between two moments, and at
 -- the second one the log of the anchor has the commit of the answer behind the history so far, and the answer's state. The
--- next line begins at that moment, so that each read is of one line.
--- The last moment and state are those of the last answer.
+-- next line begins at that moment, so that each read is of one line. The last moment and state are those of the last answer.
 abbrev pub Session : Store → Outside → History → ScriptState → List (List ℕ) → List Answer → Outside → ScriptState → Type 0
 Session store begun history first [] [] now last = (last ≡ first) × (now ≡ begun)
 Session store begun history first (line ∷ lines) (given ∷ answers) now last =
