@@ -36,7 +36,7 @@ GetsRecord state bytes = (line : LineValue) × IsLine bytes line × IsTrue (gets
 abbrev pub FirstGetsRecord : ScriptState → List ℕ → Type 0
 FirstGetsRecord state unanswered = (line : List ℕ) × (later : List ℕ) × (unanswered ≡ line ++ 10 ∷ later) × HasNoLineFeed line × GetsRecord state line
 
--- What is read where a line isn't answered: nothing, but one piece where memory runs out and the line gets a record.
+-- What is read where the next line isn't answered: nothing, but one piece where memory runs out and it gets a record.
 abbrev pub ReadsAtEnd : Type 0 → Status → Outside → Outside → Type 0
 ReadsAtEnd gets Memory old new = HasReadFor false old new ⊎ (gets × HasReadFor true old new)
 ReadsAtEnd gets status old new = HasReadFor false old new

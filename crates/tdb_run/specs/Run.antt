@@ -81,9 +81,10 @@ pub record HasNoScript {came gone : SourceContent} (c : Conversation came gone) 
   pub ends_so : IsBeforeScript status
 
 -- The commits before the script and those of its answers stand in the log of the anchor, and of each anchor that a stop may
--- leave; behind them stands at most one more. Since the anchor was told, a stop leaves no log but with a first part of these.
--- Only a run that didn't come to its script may not have been told it. Where partitions 1 and 2 were as a run makes them, or
--- neither was there, it is so in each log with a first part of these.
+-- leave; behind them stands at most one more. From some moment on a stop leaves no log but with a first part of these, and
+-- before it nothing new. Of a run that didn't come to its script it may be said only that nothing was committed, and a stop
+-- leaves nothing new. Where partitions 1 and 2 were as a run makes them, or neither was there, it is so in each log with a
+-- first part of these.
 pub record RunRan {D : Type 0} (outside : D → Outside) (crash_states : D → CrashStates) (store : Store) {came gone : SourceContent} (c : Conversation came gone) (opens : StoreState → History → StoreState → Type 0) (old new : D) (history : History) (from : StoreState) (status : Status) : Type 0 where
   pub begun : History
   pub answers : List Answer

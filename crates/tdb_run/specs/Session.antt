@@ -1,4 +1,4 @@
--- The session of a run: its lines, one after another, each answered by the log that the anchor then had.
+-- The session of a run: its lines, one after another, each answered by the log that there was then.
 use Rattle.std.specs.Prelude.{◌≡◌, ◌⊎◌, false, ℕ, List, [], ◌∷◌, ◌++◌, Some}
 use Rattle.std.specs.FinMap.{get}
 use Rattle.tdb_base.specs.declared.piece.Piece.{Piece}
@@ -39,9 +39,11 @@ AnswersBetween store old new state bytes given =
     ((line : LineValue) × IsLine bytes line × IsAnswerBetween store old new state line given)
     ⊎ (((line : LineValue) → IsLine bytes line → ⊥) × (given ≡ unbuilt state) × HasReadFor false old new)
 
--- From a first moment, history and state on, these lines are given these answers. Each is given between two moments, and at
--- the second one the log of the anchor has the commit of the answer behind the history so far, and the answer's state. The
--- next line begins at that moment, so that each read is of one line. The last moment and state are those of the last answer.
+-- From a first moment, history and state on, these lines are given these answers. A moment is a cut of the trace, with an
+-- anchor whose log it tells; what the platform's own anchor has is said of a run's end, and of stops. Each answer is given
+-- between two moments, and the second one's log has the commit of the answer behind the history so far, and the answer's
+-- state. The next line begins there. So a session has as many reads as lines that get a record, in their order. The last
+-- moment and state are those of the last answer.
 abbrev pub Session : Store → Outside → History → ScriptState → List (List ℕ) → List Answer → Outside → ScriptState → Type 0
 Session store begun history first [] [] now last = (last ≡ first) × (now ≡ begun)
 Session store begun history first (line ∷ lines) (given ∷ answers) now last =
