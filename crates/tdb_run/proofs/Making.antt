@@ -18,7 +18,7 @@ use Rattle.tdb_overlay.specs.Growth.{Added, HasGrownBy, IsSettled, OrNothing, Un
 use Rattle.tdb_overlay.specs.Intact.{StaysIntact}
 use Rattle.tdb_overlay.specs.Log.{IsLog}
 use Rattle.tdb_overlay.specs.StoreState.{StoreState, commit_on, formatted_state}
-use Rattle.tdb_run.specs.Begin.{HasBoth, HasNone, IsExplainedStop, IsNewStore, IsReopened, refusal_of}
+use Rattle.tdb_run.specs.Begin.{HasBoth, HasNone, IsExplainedStop, IsNewStore, IsReopened, Opens, refusal_of}
 use Rattle.tdb_run.specs.LineResult.{HasAllOf, HasPartOf}
 use Rattle.tdb_run.specs.Making.{HasMade, HasNotMade, IsStopOfMaking}
 use Rattle.tdb_run.specs.NotesCommit.{IsCommitted, MayBeCommitted, commit_after}
@@ -141,8 +141,8 @@ module _ {D : Type 0} (outside : D → Outside) (crash_states : D → CrashState
       any_moment = started outside crash_states counts p _ same_part;
     }
 
-    pub not_made_as_is : HasNotMade outside crash_states store (IsReopened store) p p history from
-    not_made_as_is = record {
+    pub not_made_as_is : (opens : Opens) → HasNotMade outside crash_states store opens p p history from
+    not_made_as_is opens = record {
       maybe = [];
       of_opening = inl refl;
       log = none_of (outside p) store history [] from is;

@@ -13,6 +13,7 @@ use Rattle.tdb_platform.specs.CrashStates.{CrashStates}
 use Rattle.tdb_chunk.specs.Known.{Knows, store_of}
 use Rattle.tdb_chunk.specs.declared.store.Store as memory
 use Rattle.tdb_overlay.specs.Found.{Store, in_trace}
+use Rattle.tdb_overlay.specs.Growth.{IsSettled}
 use Rattle.tdb_overlay.specs.Needed.{needed}
 use Rattle.tdb_overlay.specs.Log.{IsLog}
 use Rattle.tdb_overlay.specs.Reading.{OnlyReads}
@@ -23,7 +24,7 @@ use Rattle.tdb_recover.specs.Damaged.{IsDamageOf}
 use Rattle.tdb_recover.specs.Premises.{Premises}
 use Rattle.tdb_recover.specs.declared.error.OpenError.{OpenError}
 use Rattle.tdb_recover.specs.declared.error.OpenError.TheVariants as opening
-use Rattle.tdb_run.specs.Begin.{IsExplainedStop, OverStart}
+use Rattle.tdb_run.specs.Begin.{HasNotBegun, IsExplainedStop, Opens, OverStart}
 use Rattle.tdb_run.specs.Making.{IsStopOfOpening, status_after}
 use Rattle.tdb_run.specs.Opened.{GoesOn, IsSound}
 use Rattle.tdb_run.specs.ScriptServed.{OverLog}
@@ -31,7 +32,7 @@ use Rattle.tdb_run.specs.declared.status.Finding.TheVariants.{Tampered, Form}
 use Rattle.tdb_run.specs.declared.status.Status.{Status}
 use Rattle.tdb_run.specs.declared.status.Status.TheVariants.{Done, Usage, AnchorCount, Damaged, PlatformFault, SourceFault, SinkFault, Memory, End, Refused}
 use Rattle.tdb_run.proofs.ReadingLines.{knows_still}
-use Rattle.tdb_run.proofs.RunBeginning.{log_read, reads_on}
+use Rattle.tdb_run.proofs.RunBeginning.{log_read, not_begun_read, not_begun_settled, reads_on}
 use Rattle.tdb_run.proofs.LogRanges.{log_plain, log_segments}
 use Rattle.tdb_run.proofs.RunRan.{Counts}
 
@@ -71,6 +72,16 @@ module _ {D : Type 0} (outside : D → Outside) (crash_states : D → CrashState
       let k = known told sound history from is in
       let same : OverLog outside mid new store kept (λ history from. holds store history from) = subst (λ (s : Store). OverLog outside mid new s kept (λ history from. holds s history from)) k.0 fact in
       (k.0, same (reads_on outside crash_states counts old mid reads told) sound history from (log_read outside crash_states counts old mid reads store history from told is) k.1)
+
+-- no store was opened
+module _ {D : Type 0} (outside : D → Outside) (crash_states : D → CrashStates) (counts : Counts outside crash_states) (old mid : D) (reads : OnlyReads outside crash_states old mid) (store : Store) (opens : Opens) where
+  pub not_begun_error : (error : OpenError) → ((error ≡ opening.Fault → ⊥) → IsSettled outside crash_states mid)
+      → OverStart outside old mid store (λ history from. HasNotBegun outside crash_states store opens old mid history from (status_after error))
+  not_begun_error opening.Fault settled = not_begun_read outside crash_states counts old mid reads store opens
+  not_begun_error opening.Unformatted settled = not_begun_settled outside crash_states counts old mid reads store opens (status_after opening.Unformatted) (settled (λ is. cc is))
+  not_begun_error (opening.Tampered damage) settled = not_begun_settled outside crash_states counts old mid reads store opens (status_after (opening.Tampered damage)) (settled (λ is. cc is))
+  not_begun_error (opening.Form place) settled = not_begun_settled outside crash_states counts old mid reads store opens (status_after (opening.Form place)) (settled (λ is. cc is))
+  not_begun_error opening.Memory settled = not_begun_settled outside crash_states counts old mid reads store opens (status_after opening.Memory) (settled (λ is. cc is))
 
 -- why no store was opened, by what was read
 pub explained_error : (store : Store) (old new : Outside) (from : StoreState) (error : OpenError) → ((damage : Damage) → error ≡ opening.Tampered damage → IsDamageOf old new (IsOpeningPiece old.trace.written store old.anchor) damage)

@@ -8,6 +8,7 @@ use Rattle.tdb_platform.specs.CrashStates.{CrashStates, Elapses, LeavesNoMore, n
 use Rattle.tdb_platform.proofs.Moments.{goes_on, settles, started}
 use Rattle.tdb_chunk.specs.declared.store.Store as memory
 use Rattle.tdb_overlay.specs.Found.{Store}
+use Rattle.tdb_overlay.specs.Growth.{IsSettled}
 use Rattle.tdb_overlay.specs.Intact.{IsIntact, StaysIntact}
 use Rattle.tdb_overlay.specs.Log.{IsLog}
 use Rattle.tdb_overlay.specs.Reading.{OnlyReads}
@@ -16,6 +17,9 @@ use Rattle.tdb_run.specs.Begin.{HasBegun, HasNotBegun, Opens, OverStart}
 use Rattle.tdb_run.specs.Making.{HasMade, HasNotMade}
 use Rattle.tdb_run.specs.Opened.{GoesOn}
 use Rattle.tdb_run.specs.Served.{IsUnwritten}
+use Rattle.tdb_run.specs.declared.status.Status.{Status}
+use Rattle.tdb_run.specs.declared.status.Status.TheVariants.{PlatformFault}
+use Rattle.tdb_run.proofs.Making.{not_made_as_is}
 use Rattle.tdb_run.proofs.Over.{goes_along}
 use Rattle.tdb_run.proofs.RunRan.{Counts}
 use Rattle.tdb_run.proofs.Whole.{only_sealed_reads}
@@ -72,13 +76,13 @@ module _ {D : Type 0} (outside : D → Outside) (crash_states : D → CrashState
         subst (λ (a : Anchor). IsIntact (outside mid).trace.written store a) (sym (reads.anchor told)) (subst (λ (ws : List WrittenPiece). IsIntact ws store (outside old).anchor) (sym (reads.written told)) is)
 
     module _ (store : Store) (opens : Opens) where
-      -- nothing was done
-      pub not_begun_read : OverStart outside old mid store (λ history from. HasNotBegun outside crash_states store opens old mid history from)
+      -- nothing was done, for a fault
+      pub not_begun_read : OverStart outside old mid store (λ history from. HasNotBegun outside crash_states store opens old mid history from PlatformFault)
       not_begun_read told sound history from is = record {
         maybe = [];
         of_opening = inl refl;
         log = (from, inl (subst (λ (h : History). IsLog (outside mid).trace.written store (outside mid).anchor h from) (sym (append-nil history)) (log_read store history from told is)));
-        stops = inl (reads.left.each, refl);
+        stops = inl (reads.left.each, refl, refl);
       }
 
       module _ (new : D) where
@@ -92,8 +96,8 @@ module _ {D : Type 0} (outside : D → Outside) (crash_states : D → CrashState
           any_moment = settles outside crash_states counts old mid new _ reads.left made.any_moment;
         }
 
-        pub not_begun_after : (history : History) (from : StoreState) → HasNotMade outside crash_states store opens mid new history from → HasNotBegun outside crash_states store opens old new history from
-        not_begun_after history from made = record {
+        pub not_begun_after : (status : Status) (history : History) (from : StoreState) → HasNotMade outside crash_states store opens mid new history from → HasNotBegun outside crash_states store opens old new history from status
+        not_begun_after status history from made = record {
           maybe = made.maybe;
           of_opening = made.of_opening;
           log = made.log;
@@ -104,9 +108,14 @@ module _ {D : Type 0} (outside : D → Outside) (crash_states : D → CrashState
             → OverStart outside old new store (λ history from. HasBegun outside crash_states store opens old new history from kept)
         begun_over kept made told sound history from is = begun_after history from kept (made (reads_on told) sound history from (log_read store history from told is))
 
-        pub not_begun_over : OverStart outside mid new store (λ history from. HasNotMade outside crash_states store opens mid new history from)
-            → OverStart outside old new store (λ history from. HasNotBegun outside crash_states store opens old new history from)
-        not_begun_over made told sound history from is = not_begun_after history from (made (reads_on told) sound history from (log_read store history from told is))
+        pub not_begun_over : (status : Status) → OverStart outside mid new store (λ history from. HasNotMade outside crash_states store opens mid new history from)
+            → OverStart outside old new store (λ history from. HasNotBegun outside crash_states store opens old new history from status)
+        not_begun_over status made told sound history from is = not_begun_after status history from (made (reads_on told) sound history from (log_read store history from told is))
+
+      -- nothing was done, and the anchor was told
+      pub not_begun_settled : (status : Status) → IsSettled outside crash_states mid → OverStart outside old mid store (λ history from. HasNotBegun outside crash_states store opens old mid history from status)
+      not_begun_settled status settled told sound history from is =
+          not_begun_after mid status history from (not_made_as_is outside crash_states counts store mid (reads_on told) settled history from (log_read store history from told is) opens)
 
     pub whole_after : (store : Store) (new : D) → StaysIntact store (outside mid) (outside new) → StaysIntact store (outside old) (outside new)
     whole_after store new whole told sound history from is intact = whole (reads_on told) sound history from (log_read store history from told is) (intact_read store told intact)

@@ -162,7 +162,7 @@ module _ {D : Type 0} (outside : D → Outside) (crash_states : D → CrashState
 
     module _ (untaken : c.taken ≡ []) (no_line : c.lines ≡ []) (no_reply : c.replies ≡ []) (no_next : c.next ≡ None) where
       -- a store that couldn't be opened
-      pub ran_early : (new : D) (status : Status) → IsEarlyStop (outside old) (outside new) status → HasNotBegun outside crash_states store opens old new history from
+      pub ran_early : (new : D) (status : Status) → IsEarlyStop (outside old) (outside new) status → HasNotBegun outside crash_states store opens old new history from status
           → IsExplainedStop store (outside old) (outside new) from status → RunRan outside crash_states store c opens old new history from status
       ran_early new status early b explained = record {
         begun = [];

@@ -79,17 +79,18 @@ pub record LeavesLog {D : Type 0} (outside : D → Outside) (crash_states : D �
   pub left : (i : List ℕ) (a : Anchor) → now outside crash_states new i a → HasAllOf (outside new).trace.written store history surely maybe a
   pub any_moment : Settles outside crash_states old new (λ i a. HasPartOf (outside new).trace.written store history (surely ++ maybe) a)
 
--- the same without a commit for sure, or nothing was committed, and a stop leaves nothing that one could not leave before
-abbrev pub LeavesLogOrNothing : {D : Type 0} → (D → Outside) → (D → CrashStates) → Store → D → D → History → History → Type 0
-LeavesLogOrNothing outside crash_states store old new history maybe =
-    (LeavesNothing outside crash_states old new × (maybe ≡ [])) ⊎ LeavesLog outside crash_states store old new history [] maybe
+-- The same without a commit for sure. Or the platform failed, nothing was committed, and a stop leaves nothing that one could
+-- not leave before: so it is where the anchor wasn't told.
+abbrev pub LeavesLogOrNothing : {D : Type 0} → (D → Outside) → (D → CrashStates) → Store → D → D → History → History → Status → Type 0
+LeavesLogOrNothing outside crash_states store old new history maybe status =
+    (LeavesNothing outside crash_states old new × (maybe ≡ []) × (status ≡ PlatformFault)) ⊎ LeavesLog outside crash_states store old new history [] maybe
 
 -- The store isn't open. The commits before the script may have been made.
-pub record HasNotBegun {D : Type 0} (outside : D → Outside) (crash_states : D → CrashStates) (store : Store) (opens : StoreState → History → StoreState → Type 0) (old new : D) (history : History) (from : StoreState) : Type 0 where
+pub record HasNotBegun {D : Type 0} (outside : D → Outside) (crash_states : D → CrashStates) (store : Store) (opens : StoreState → History → StoreState → Type 0) (old new : D) (history : History) (from : StoreState) (status : Status) : Type 0 where
   pub maybe : History
   pub of_opening : (maybe ≡ []) ⊎ ((opened : StoreState) × opens from maybe opened)
   pub log : HasAllOf (outside new).trace.written store history [] maybe (outside new).anchor
-  pub stops : LeavesLogOrNothing outside crash_states store old new history maybe
+  pub stops : LeavesLogOrNothing outside crash_states store old new history maybe status
 
 -- why a run doesn't come to its script
 abbrev pub IsEarlyStop : Outside → Outside → Status → Type 0

@@ -82,8 +82,8 @@ pub record HasNoScript {came gone : SourceContent} (c : Conversation came gone) 
 
 -- The commits before the script and those of its answers stand in the log of the anchor, and of each anchor that a stop may
 -- leave; behind them stands at most one more. From some moment on a stop leaves no log but with a first part of these, and
--- before it nothing new. Of a run that didn't come to its script it may be said only that nothing was committed, and a stop
--- leaves nothing new. Where partitions 1 and 2 were as a run makes them, or neither was there, it is so in each log with a
+-- before it nothing new. Of a run whose platform failed before its script it may be said only that nothing was committed, and
+-- a stop leaves nothing new. Where partitions 1 and 2 were as a run makes them, or neither was there, it is so in each log with a
 -- first part of these.
 pub record RunRan {D : Type 0} (outside : D → Outside) (crash_states : D → CrashStates) (store : Store) {came gone : SourceContent} (c : Conversation came gone) (opens : StoreState → History → StoreState → Type 0) (old new : D) (history : History) (from : StoreState) (status : Status) : Type 0 where
   pub begun : History
@@ -93,7 +93,7 @@ pub record RunRan {D : Type 0} (outside : D → Outside) (crash_states : D → C
   pub ran :
       ((HasScript store c opens (outside old) (outside new) history from status begun answers maybe ⊎ HasNewStore store c opens (outside new) history from status begun answers maybe)
       × LeavesLog outside crash_states store old new history (begun ++ added_by answers) maybe)
-      ⊎ (HasNoScript c opens from status begun answers maybe × LeavesLogOrNothing outside crash_states store old new history maybe)
+      ⊎ (HasNoScript c opens from status begun answers maybe × LeavesLogOrNothing outside crash_states store old new history maybe status)
   pub explained : IsExplainedStop store (outside old) (outside new) from status
   pub log : HasAllOf (outside new).trace.written store history (begun ++ added_by answers) maybe (outside new).anchor
   pub partitions : HasUserPartitions from.chunks

@@ -45,7 +45,7 @@ pub(crate) fn new_store<P: Platform>(
     ensures begun { IfOk result (λ s. OverStart P.outside platform.old platform.new (plain_store secret.now segments)
         (λ history from. HasBegun P.outside P.crash_states (plain_store secret.now segments) (IsNewStore (plain_store secret.now segments)) platform.old platform.new history from s)) }
     ensures not_begun { IfErr result (λ status. OverStart P.outside platform.old platform.new (plain_store secret.now segments)
-        (λ history from. HasNotBegun P.outside P.crash_states (plain_store secret.now segments) (IsNewStore (plain_store secret.now segments)) platform.old platform.new history from
+        (λ history from. HasNotBegun P.outside P.crash_states (plain_store secret.now segments) (IsNewStore (plain_store secret.now segments)) platform.old platform.new history from status
         × IsExplainedStop (plain_store secret.now segments) (P.outside platform.old) (P.outside platform.new) from status)) }
     ensures early { IfErr result (λ status. IsEarlyStop (P.outside platform.old) (P.outside platform.new) status) }
     ensures refused { IfErr result (λ status. WasRefused status → (status ≡ AnchorCount true) × OnlyReads P.outside P.crash_states platform.old platform.new × IsSettled P.outside P.crash_states platform.new) }
@@ -148,7 +148,7 @@ pub(crate) fn open_store<P: Platform>(
     ensures begun { (store : found.Store) → store.secret ≡ secret.now → IfOk result (λ s. OverStart P.outside platform.old platform.new store
         (λ history from. (store_of s ≡ store) × HasBegun P.outside P.crash_states store (IsReopened store) platform.old platform.new history from s)) }
     ensures not_begun { (store : found.Store) → store.secret ≡ secret.now → IfErr result (λ status. OverStart P.outside platform.old platform.new store
-        (λ history from. HasNotBegun P.outside P.crash_states store (IsReopened store) platform.old platform.new history from
+        (λ history from. HasNotBegun P.outside P.crash_states store (IsReopened store) platform.old platform.new history from status
         × IsExplainedStop store (P.outside platform.old) (P.outside platform.new) from status)) }
     ensures early { IfErr result (λ status. IsEarlyStop (P.outside platform.old) (P.outside platform.new) status) }
     ensures refused { IfErr result (λ status. WasRefused status → OnlyReads P.outside P.crash_states platform.old platform.new × IsSettled P.outside P.crash_states platform.new) }

@@ -6,7 +6,7 @@ use Rattle.tdb_overlay.specs.Intact.{StaysIntact}
 use Rattle.tdb_run.specs.Begin.{HasBegun, HasNotBegun, IsExplainedStop, IsNewStore, OverStart}
 use Rattle.tdb_run.specs.Making.{HasMade, HasNotMade, IsStopOfMaking}
 use Rattle.tdb_run.specs.declared.status.Status.{Status}
-use Rattle.tdb_run.proofs.RunBeginning.{anchor_reads, begun_over, if_err, if_ok, not_begun_over, not_begun_read, reads_goes, whole_after}
+use Rattle.tdb_run.proofs.RunBeginning.{anchor_reads, begun_over, if_err, if_ok, not_begun_over, not_begun_read, not_begun_settled, reads_goes, whole_after}
 use Rattle.tdb_run.proofs.Making.{explained_making}
 use Rattle.tdb_overlay.specs.Growth.{IsSettled}
 use Rattle.tdb_overlay.specs.Reading.{OnlyReads}
@@ -62,9 +62,9 @@ returns-in-Ok-eq0-default-clause-not_begun g c =
     let made = subst (λ (k : List ℕ). IfErr c.make_store.result (λ (e : Status). OverStart outside mid new (plain_store k c.args.segments)
     (λ history from. HasNotMade outside crash_states (plain_store k c.args.segments) (IsNewStore (plain_store k c.args.segments)) mid new history from))) c.new.ensures c.make_store.ensures.not_made in
     if_err (λ (e : Status). OverStart outside mid new store (λ history from. HasNotMade outside crash_states store (IsNewStore store) mid new history from)) (λ (e : Status). IsStopOfMaking (outside mid) (outside new) e)
-    (λ (e : Status). OverStart outside old new store (λ history from. HasNotBegun outside crash_states store (IsNewStore store) old new history from × IsExplainedStop store (outside old) (outside new) from e)) c.make_store.result
+    (λ (e : Status). OverStart outside old new store (λ history from. HasNotBegun outside crash_states store (IsNewStore store) old new history from e × IsExplainedStop store (outside old) (outside new) from e)) c.make_store.result
     (λ e is stopped why told sound history from log. (
-      not_begun_over outside crash_states counts old mid reads store (IsNewStore store) new stopped told sound history from log,
+      not_begun_over outside crash_states counts old mid reads store (IsNewStore store) new e stopped told sound history from log,
       explained_making store (outside old) (outside mid) (outside new) from e why (λ refusal same. absurd (c.make_store.ensures.never_refused refusal (is ∙ ap (λ (s : Status). Err s) same))),
     )) made c.make_store.ensures.why
 
@@ -85,7 +85,7 @@ returns-in-Ok-clause-not_begun g c told sound history from is =
     let store : Store = plain_store c.args.secret.now c.args.segments in
     let a = c.anchor.ensures in
     let reads = anchor_reads outside crash_states counts c.args.platform.now c.anchor.new.self c.anchor.result a.trace a.anchor a.image a.now a.time a.told in
-    (not_begun_read outside crash_states counts c.args.platform.now c.anchor.new.self reads store (IsNewStore store) told sound history from is, tt)
+    (not_begun_settled outside crash_states counts c.args.platform.now c.anchor.new.self reads store (IsNewStore store) (AnchorCount true) (λ on. c.in-Ok.ensures.settled (subst IsTrue reads.tells on)) told sound history from is, tt)
 
 pub returns-in-Ok-clause-goes_on : goal.returns-in-Ok-clause-goes_on
 returns-in-Ok-clause-goes_on g c =

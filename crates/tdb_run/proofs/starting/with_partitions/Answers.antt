@@ -6,6 +6,7 @@ use Rattle.tdb_model.proofs.RangeLemmas.{empty_in_range}
 use Rattle.tdb_chunk.specs.Known.{store_of}
 use Rattle.tdb_overlay.specs.Found.{in_trace}
 use Rattle.tdb_overlay.specs.StoreState.{first_state}
+use Rattle.tdb_run.specs.Begin.{IsReopened}
 use Rattle.tdb_run.proofs.Covered.{has_both, user_partitions}
 use Rattle.tdb_run.proofs.LogRanges.{log_in_range}
 use Rattle.tdb_run.proofs.Making.{made_as_is, not_made_as_is}
@@ -30,7 +31,7 @@ returns-else-may_make-clause-not_made g c told sound history from is at =
     let old = g.P.Platform.outside c.args.platform.now in
     let store = store_of c.args.store in
     let in_range = log_in_range (in_trace old.trace.written) store (first_state store) is.chain history from empty_in_range is.tells in (
-      not_made_as_is g.P.Platform.outside g.P.Platform.crash_states g.met.P.Platform.counts store c.args.platform.now told c.requires.settled history from is,
+      not_made_as_is g.P.Platform.outside g.P.Platform.crash_states g.met.P.Platform.counts store c.args.platform.now told c.requires.settled history from is (IsReopened store),
       (
         λ user.
             ⊎_elim (λ both. false≢true (c.if-has_both.ensures.1 both)) (λ neither. false≢true (c.if-may_make.ensures.1 neither))
