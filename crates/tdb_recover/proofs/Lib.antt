@@ -4,6 +4,7 @@ pub mod Behind
 pub mod Composing
 pub mod Ends
 pub mod Noting
+pub mod Only
 pub mod Replaying
 pub mod Rest
 pub mod Showing

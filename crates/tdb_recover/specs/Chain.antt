@@ -14,6 +14,7 @@ use Rattle.tdb_overlay.specs.Log.{IsLogOf}
 use Rattle.tdb_overlay.specs.Required.{IsOpeningPiece, base_of}
 use Rattle.tdb_overlay.specs.StoreState.{StoreState, first_state}
 use Rattle.tdb_recover.specs.Explained.{IsExplained}
+use Rattle.tdb_recover.specs.Reads.{ReadsOnly}
 use Rattle.tdb_recover.specs.declared.error.OpenError.{OpenError}
 
 -- a log: a store, an anchor, the chain of texts that ends there, and what they tell
@@ -38,6 +39,10 @@ EachLog old new secret P = IsTrue old.tells → (log : WholeLog) → IsGiven old
 -- the error is explained by the pieces that opening the log reads
 abbrev pub IsExplainedIn : Outside → Outside → OpenError → WholeLog → Type 0
 IsExplainedIn old new error log = IsExplained old new (IsOpeningPiece old.trace.written log.store log.anchor) error
+
+-- no other piece was read than those that opening the log reads
+abbrev pub ReadsOnlyIn : Outside → Outside → WholeLog → Type 0
+ReadsOnlyIn old new log = ReadsOnly (IsOpeningPiece old.trace.written log.store log.anchor) old new
 
 -- the text has the mark, and says the commit
 pub record IsTextOf (written : List WrittenPiece) (trace : Trace) (secret mark : List ℕ) (c : Commit) : Type 0 where

@@ -11,10 +11,11 @@ ghost use Rattle.tdb_overlay.specs.Recovered.{HasCounts, IsRecovered};
 ghost use Rattle.tdb_overlay.specs.Required.{IsOpeningPiece};
 ghost use Rattle.tdb_overlay.specs.StoreState.{StoreState};
 ghost use Rattle.tdb_platform.specs.Outside.{Rose};
-ghost use Rattle.tdb_recover.specs.Chain.{EachLog, IsExplainedIn};
+ghost use Rattle.tdb_recover.specs.Chain.{EachLog, IsExplainedIn, ReadsOnlyIn};
 ghost use Rattle.tdb_recover.specs.Damaged.{IsDamageOf};
 ghost use Rattle.tdb_recover.specs.Explained.{IsCaused};
 ghost use Rattle.tdb_recover.specs.Premises.{Premises};
+ghost use Rattle.tdb_recover.specs.Reads.{ReadsOnly};
 ghost use Rattle.tdb_recover.specs.declared.error.OpenError.TheVariants.{Unformatted, Tampered, Form, Fault};
 
 use crate::error::OpenError;
@@ -41,6 +42,8 @@ fn open_log<P: Platform>(
     ensures counts { IfOk result HasCounts }
     ensures recovered { IfOk result (λ log. EachLog (P.outside platform.old) (P.outside platform.new) keys.now (λ whole. whole.anchor ≡ (count, mark.0)
         → IsRecovered (needed (P.outside platform.old).trace.written whole.store whole.anchor) whole.store log whole.last)) }
+    ensures only { IfOk result (λ _. EachLog (P.outside platform.old) (P.outside platform.new) keys.now (λ whole. whole.anchor ≡ (count, mark.0)
+        → ReadsOnlyIn (P.outside platform.old) (P.outside platform.new) whole)) }
     ensures caused { IfErr result (IsCaused (P.outside platform.old) (P.outside platform.new)) }
     ensures explained { IfErr result (λ error. EachLog (P.outside platform.old) (P.outside platform.new) keys.now (λ whole. whole.anchor ≡ (count, mark.0)
         → IsExplainedIn (P.outside platform.old) (P.outside platform.new) error whole)) }
@@ -86,6 +89,9 @@ pub fn recover<P: Platform>(
     // what was recovered is the log's state, whatever the device showed, told by pieces that the log needs
     ensures recovered { IfOk result (λ log. (store : Store) (history : History) (last : StoreState) → Premises (P.outside platform.old) (P.outside platform.new) keys.now store history last
         → IsRecovered (needed (P.outside platform.old).trace.written store (P.outside platform.old).anchor) store log last) }
+    // each piece is read whole, and none but the texts, the table and the lists that the log needs
+    ensures only_opening { IfOk result (λ log. (store : Store) (history : History) (last : StoreState) → Premises (P.outside platform.old) (P.outside platform.new) keys.now store history last
+        → ReadsOnly (IsOpeningPiece (P.outside platform.old).trace.written store (P.outside platform.old).anchor) (P.outside platform.old) (P.outside platform.new)) }
     // damage is told only of a text since the last checkpoint, of the table or of a list, and the last read of it showed it
     ensures tampered { (damage : Damage) → result ≡ Err (Tampered damage) → (store : Store) (history : History) (last : StoreState) → Premises (P.outside platform.old) (P.outside platform.new) keys.now store history last
         → IsDamageOf (P.outside platform.old) (P.outside platform.new) (IsOpeningPiece (P.outside platform.old).trace.written store (P.outside platform.old).anchor) damage }

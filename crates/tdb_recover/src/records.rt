@@ -9,6 +9,7 @@ ghost use Rattle.tdb_overlay.specs.Placement.{LiesBelow};
 ghost use Rattle.tdb_overlay.specs.Reading.{OnlyReads};
 ghost use Rattle.tdb_seg.specs.TableSpace.{table_space};
 ghost use Rattle.tdb_recover.specs.Explained.{IsCaused, IsExplained};
+ghost use Rattle.tdb_recover.specs.Reads.{ReadsOnly};
 ghost use Rattle.tdb_recover.specs.Records.{IsListIn, IsRecordIn, IsTableIn};
 
 use crate::error::OpenError;
@@ -39,6 +40,7 @@ fn open_record<P: Platform>(
     ensures reads { OnlyReads P.outside P.crash_states platform.old platform.new }
     ensures plain { IsTrue (P.outside platform.old).tells → IfOk result (λ bytes. (plain : List ℕ)
         → IsRecordIn (P.outside platform.old).trace.written (P.outside platform.new).trace keys.now name.now piece.now plain → bytes.items ≡ plain) }
+    ensures only { IsTrue (P.outside platform.old).tells → IfOk result (λ _. ReadsOnly (λ p. p ≡ piece.now) (P.outside platform.old) (P.outside platform.new)) }
     ensures caused { IfErr result (IsCaused (P.outside platform.old) (P.outside platform.new)) }
     ensures explained { IsTrue (P.outside platform.old).tells → IfErr result (λ error. (plain : List ℕ)
         → IsRecordIn (P.outside platform.old).trace.written (P.outside platform.new).trace keys.now name.now piece.now plain
@@ -63,6 +65,7 @@ pub(crate) fn read_segments<P: Platform>(
     ensures reads { OnlyReads P.outside P.crash_states platform.old platform.new }
     ensures segments { IsTrue (P.outside platform.old).tells → IfOk result (λ segments.
         (given : IsTableIn (P.outside platform.old).trace.written (P.outside platform.new).trace keys.now text.now) → segments ≡ table_space given.table.table (end_of text.now.first)) }
+    ensures only { IsTrue (P.outside platform.old).tells → IfOk result (λ _. ReadsOnly (λ p. p ≡ text.now.first) (P.outside platform.old) (P.outside platform.new)) }
     ensures caused { IfErr result (IsCaused (P.outside platform.old) (P.outside platform.new)) }
     ensures explained { IsTrue (P.outside platform.old).tells → IfErr result (λ error.
         IsTableIn (P.outside platform.old).trace.written (P.outside platform.new).trace keys.now text.now
@@ -103,6 +106,7 @@ pub(crate) fn read_entries<P: Platform>(
     ensures lies { IfOk result (λ _. LiesBelow segments.now.segments text.now.first) }
     ensures entries { IsTrue (P.outside platform.old).tells → IfOk result (λ entries. (changes : List Change)
         → (given : IsListIn (P.outside platform.old).trace.written (P.outside platform.new).trace keys.now text.now changes) → entries.items ≡ given.list.entries) }
+    ensures only { IsTrue (P.outside platform.old).tells → IfOk result (λ _. ReadsOnly (λ p. p ≡ text.now.first) (P.outside platform.old) (P.outside platform.new)) }
     ensures caused { IfErr result (IsCaused (P.outside platform.old) (P.outside platform.new)) }
     ensures explained { IsTrue (P.outside platform.old).tells → IfErr result (λ error. (changes : List Change)
         → IsListIn (P.outside platform.old).trace.written (P.outside platform.new).trace keys.now text.now changes → LiesBelow segments.now.segments text.now.first

@@ -9,8 +9,9 @@ ghost use Rattle.tdb_overlay.specs.Placement.{LiesBelow, note_all};
 ghost use Rattle.tdb_overlay.specs.Reading.{OnlyReads};
 ghost use Rattle.tdb_overlay.specs.StoreState.{StoreState};
 ghost use Rattle.tdb_platform.specs.Outside.{Anchor};
-ghost use Rattle.tdb_recover.specs.Chain.{EachLog, EndsWith, IsBehind, IsExplainedIn};
+ghost use Rattle.tdb_recover.specs.Chain.{EachLog, EndsWith, IsBehind, IsExplainedIn, ReadsOnlyIn};
 ghost use Rattle.tdb_recover.specs.Explained.{IsCaused, IsExplained};
+ghost use Rattle.tdb_recover.specs.Reads.{ReadsOnly};
 ghost use Rattle.tdb_recover.specs.Replay.{IsCommitIn, IsFormUnless, IsReplayOf, IsRest};
 
 use crate::error::OpenError;
@@ -58,6 +59,7 @@ fn replay_list<P: Platform>(
     ensures replayed { IsTrue (P.outside platform.old).tells → OnOk result ((store : Store) (anchor : Anchor) (before : StoreState) (changes : List Change) (after : StoreState)
         → IsCommitIn (P.outside platform.old).trace.written (P.outside platform.new).trace keys.now store anchor before text.now changes after
         → IsReplayOf (needed (P.outside platform.old).trace.written store anchor) store log.old before → IsReplayOf (needed (P.outside platform.old).trace.written store anchor) store log.new after) }
+    ensures only { IsTrue (P.outside platform.old).tells → OnOk result (ReadsOnly (λ p. p ≡ text.now.first) (P.outside platform.old) (P.outside platform.new)) }
     ensures caused { IfErr result (IsCaused (P.outside platform.old) (P.outside platform.new)) }
     ensures explained { IsTrue (P.outside platform.old).tells → IfErr result (λ error. (store : Store) (anchor : Anchor) (before : StoreState) (changes : List Change) (after : StoreState)
         → IsCommitIn (P.outside platform.old).trace.written (P.outside platform.new).trace keys.now store anchor before text.now changes after
@@ -88,6 +90,10 @@ pub(crate) fn replay<P: Platform>(
         IsRest (P.outside platform.old).trace.written whole (reverse chain.commits.items) log.old
         → EndsWith (P.outside platform.old).trace.written keys.now whole.chain chain.base (reverse chain.commits.items)
         → IsReplayOf (needed (P.outside platform.old).trace.written whole.store whole.anchor) whole.store log.new whole.last)) }
+    ensures only { OnOk result (EachLog (P.outside platform.old) (P.outside platform.new) keys.now (λ whole.
+        IsRest (P.outside platform.old).trace.written whole (reverse chain.commits.items) log.old
+        → EndsWith (P.outside platform.old).trace.written keys.now whole.chain chain.base (reverse chain.commits.items)
+        → ReadsOnlyIn (P.outside platform.old) (P.outside platform.new) whole)) }
     ensures caused { IfErr result (IsCaused (P.outside platform.old) (P.outside platform.new)) }
     ensures explained { IfErr result (λ error. EachLog (P.outside platform.old) (P.outside platform.new) keys.now (λ whole.
         IsRest (P.outside platform.old).trace.written whole (reverse chain.commits.items) log.old

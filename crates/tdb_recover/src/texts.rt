@@ -6,8 +6,9 @@ ghost use Rattle.tdb_base.specs.declared.piece.Digest.{Digest};
 ghost use Rattle.tdb_mark.specs.declared.commit.Commit.{Commit};
 ghost use Rattle.tdb_mark.specs.CommitFormat.{IsInFormat};
 ghost use Rattle.tdb_overlay.specs.Reading.{OnlyReads};
-ghost use Rattle.tdb_recover.specs.Chain.{EachLog, EndsWith, IsBehind, IsExplainedIn, IsTextOf};
+ghost use Rattle.tdb_recover.specs.Chain.{EachLog, EndsWith, IsBehind, IsExplainedIn, IsTextOf, ReadsOnlyIn};
 ghost use Rattle.tdb_recover.specs.Explained.{IsCaused, IsExplained};
+ghost use Rattle.tdb_recover.specs.Reads.{ReadsOnly};
 
 use crate::error::OpenError;
 use std::alloc::Global;
@@ -38,6 +39,7 @@ fn read_text<P: Platform>(
     ensures format { IfOk result IsInFormat }
     ensures text { IsTrue (P.outside platform.old).tells → IfOk result (λ text. (c : Commit)
         → IsTextOf (P.outside platform.old).trace.written (P.outside platform.new).trace keys.now mark.now.0 c → text ≡ c) }
+    ensures only { IsTrue (P.outside platform.old).tells → IfOk result (λ _. ReadsOnly (λ piece. piece ≡ record { place = record { 0 = slot_place count }; length = 256; digest = mark.now }) (P.outside platform.old) (P.outside platform.new)) }
     ensures caused { IfErr result (IsCaused (P.outside platform.old) (P.outside platform.new)) }
     ensures explained { IsTrue (P.outside platform.old).tells → IfErr result (λ error. (c : Commit)
         → IsTextOf (P.outside platform.old).trace.written (P.outside platform.new).trace keys.now mark.now.0 c
@@ -65,6 +67,8 @@ fn read_newest<P: Platform>(
     ensures counts { IfOk result (λ text. (text.count ≡ count) × (count ≤ text.base + 1000)) }
     ensures ends { IfOk result (λ text. EachLog (P.outside platform.old) (P.outside platform.new) keys.now (λ log. log.anchor ≡ (count, mark.now.0)
         → EndsWith (P.outside platform.old).trace.written keys.now log.chain text [])) }
+    ensures only { IfOk result (λ _. EachLog (P.outside platform.old) (P.outside platform.new) keys.now (λ log. log.anchor ≡ (count, mark.now.0)
+        → ReadsOnlyIn (P.outside platform.old) (P.outside platform.new) log)) }
     ensures caused { IfErr result (IsCaused (P.outside platform.old) (P.outside platform.new)) }
     ensures explained { IfErr result (λ error. EachLog (P.outside platform.old) (P.outside platform.new) keys.now (λ log. log.anchor ≡ (count, mark.now.0)
         → IsExplainedIn (P.outside platform.old) (P.outside platform.new) error log)) }
@@ -94,6 +98,9 @@ fn read_before<P: Platform>(
     ensures ends { IfOk result (λ earlier. EachLog (P.outside platform.old) (P.outside platform.new) keys.now (λ log. (later : List Commit)
         → EndsWith (P.outside platform.old).trace.written keys.now log.chain text.now later
         → EndsWith (P.outside platform.old).trace.written keys.now log.chain earlier (text.now ∷ later))) }
+    ensures only { IfOk result (λ _. EachLog (P.outside platform.old) (P.outside platform.new) keys.now (λ log. (later : List Commit)
+        → EndsWith (P.outside platform.old).trace.written keys.now log.chain text.now later
+        → ReadsOnlyIn (P.outside platform.old) (P.outside platform.new) log)) }
     ensures caused { IfErr result (IsCaused (P.outside platform.old) (P.outside platform.new)) }
     ensures explained { IfErr result (λ error. EachLog (P.outside platform.old) (P.outside platform.new) keys.now (λ log. (later : List Commit)
         → EndsWith (P.outside platform.old).trace.written keys.now log.chain text.now later
@@ -130,6 +137,8 @@ pub(crate) fn read_chain<P: Platform>(
     ensures commits { IfOk result (λ chain. AllByRecursion (IsBehind chain.base) (reverse chain.commits.items)) }
     ensures ends { IfOk result (λ chain. EachLog (P.outside platform.old) (P.outside platform.new) keys.now (λ log. log.anchor ≡ (count, mark.now.0)
         → EndsWith (P.outside platform.old).trace.written keys.now log.chain chain.base (reverse chain.commits.items))) }
+    ensures only { IfOk result (λ _. EachLog (P.outside platform.old) (P.outside platform.new) keys.now (λ log. log.anchor ≡ (count, mark.now.0)
+        → ReadsOnlyIn (P.outside platform.old) (P.outside platform.new) log)) }
     ensures caused { IfErr result (IsCaused (P.outside platform.old) (P.outside platform.new)) }
     ensures explained { IfErr result (λ error. EachLog (P.outside platform.old) (P.outside platform.new) keys.now (λ log. log.anchor ≡ (count, mark.now.0)
         → IsExplainedIn (P.outside platform.old) (P.outside platform.new) error log)) }

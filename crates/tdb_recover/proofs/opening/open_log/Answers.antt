@@ -9,11 +9,13 @@ use Rattle.tdb_overlay.specs.Required.{IsOpeningPiece}
 use Rattle.tdb_overlay.proofs.ReadingLaws.{reads_then}
 use Rattle.tdb_recover.specs.Chain.{EndsWith}
 use Rattle.tdb_recover.specs.Explained.{IsExplained}
+use Rattle.tdb_recover.specs.Reads.{ReadsOnly}
 use Rattle.tdb_recover.specs.Records.{IsTableIn}
 use Rattle.tdb_recover.specs.Replay.{IsReplayOf}
 use Rattle.tdb_recover.proofs.Answering.{if_err_and}
 use Rattle.tdb_recover.proofs.Bases.{base_step, given_at_chain, is_recovered, rest_begins, table_in, table_opening}
 use Rattle.tdb_recover.proofs.Composing.{explained_then, given_before, given_then, tells_then, written_then, written_back}
+use Rattle.tdb_recover.proofs.Only.{only_as, only_then}
 use Rattle.tdb_recover.proofs.Showing.{explained_as}
 use Rattle.tdb_recover.proofs.opening.open_log.Goals as goal
 
@@ -130,3 +132,36 @@ returns-clause-reads g c =
     let then = c.read_segments.new.platform in
     let both = reads_then outside states counts old c.read_chain.new.platform then c.read_chain.ensures.reads c.read_segments.ensures.reads in
     reads_then outside states counts old then c.replay.new.platform both c.replay.ensures.reads
+
+pub returns-clause-only : goal.returns-clause-only
+returns-clause-only g c t whole given at =
+    let outside = g.P.Platform.outside in
+    let states = g.P.Platform.crash_states in
+    let numbered = g.met.P.Platform.numbered in
+    let old = c.args.platform.now in
+    let mid = c.read_chain.new.platform in
+    let then = c.read_segments.new.platform in
+    let new = c.replay.new.platform in
+    let first = c.read_chain.ensures.reads in
+    let second = c.read_segments.ensures.reads in
+    let both = reads_then outside states g.met.P.Platform.counts old mid then first second in
+    let keys = c.args.keys.now in
+    let chain = c.in_ok-chain.chain in
+    let later = reverse chain.commits.items in
+    let format = c.in_ok-chain.ensures.format in
+    let own = c.in_ok-chain.ensures.base in
+    let r : Recovered = record { head = record { count = c.args.count; mark = c.args.mark; base = chain.base.count }; segments = c.in_ok-segments.segments; overlay = c.new.result } in
+    let told = tells_then outside states old then both t in
+    let pieces = IsOpeningPiece (outside old).trace.written whole.store whole.anchor in
+    let at_chain = given_at_chain outside states numbered old mid then new first second both c.replay.ensures.reads t keys whole given in
+    let ends = c.in_ok-chain.ensures.ends t whole at_chain at in
+    let rest = rest_begins outside states numbered old mid then new first second both c.replay.ensures.reads t keys whole given chain.base later format own ends r
+    (c.in_ok-segments.ensures.segments (tells_then outside states old mid first t)) c.new.ensures in
+    only_then (outside old) (outside then) (outside new) pieces
+    (only_then (outside old) (outside mid) (outside then) pieces (c.in_ok-chain.ensures.only t whole at_chain at)
+    (only_as (outside mid) (outside then) (λ p. p ≡ chain.base.first) pieces
+    (λ piece same. table_opening (outside old).trace.written (outside new).trace keys whole given chain.base later format own ends piece same)
+    (c.in_ok-segments.ensures.only (tells_then outside states old mid first t))))
+    (written_back outside states old then both t (λ ws. ReadsOnly (IsOpeningPiece ws whole.store whole.anchor) (outside then) (outside new))
+    (c.in_ok-replay.ensures.only told whole (given_then outside states old then both t (outside new).trace keys whole given) rest
+    (written_then outside states old then both t (λ ws. EndsWith ws keys whole.chain chain.base later) ends)))

@@ -5,6 +5,7 @@ use Rattle.tdb_seal.proofs.RecordSpelling.{same_plain}
 use Rattle.tdb_overlay.specs.Keys.{system_key}
 use Rattle.tdb_recover.specs.Explained.{IsExplained}
 use Rattle.tdb_recover.proofs.Answering.{if_err_and}
+use Rattle.tdb_recover.proofs.Only.{only_one}
 use Rattle.tdb_recover.proofs.Showing.{piece_error, read_is}
 use Rattle.tdb_recover.proofs.records.open_record.Goals as goal
 
@@ -39,3 +40,6 @@ returns-in-Err-Form-clause-explained g c t plain given =
     c.in-Err-Form.ensures.form (ap Err c.in-Err-Form.field-0-is) plain
     (subst (λ (key : List ℕ). IsSealedRecord key c.args.name.now plain c.as_slice.result.now) (sym c.system.ensures)
     (subst (λ (b : List ℕ). IsSealedRecord (system_key c.args.keys.now) c.args.name.now plain b) (sym (c.as_slice.ensures.value ∙ is)) given.opened))
+
+pub returns-in-Ok-clause-only : goal.returns-in-Ok-clause-only
+returns-in-Ok-clause-only g c t = only_one (g.P.Platform.outside c.args.platform.now) (g.P.Platform.outside c.fetch.new.platform) c.args.piece.now c.in_ok-bytes.bytes.items (c.in_ok-bytes.ensures.read t)

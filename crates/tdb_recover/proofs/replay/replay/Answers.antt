@@ -7,10 +7,12 @@ use Rattle.tdb_overlay.specs.Required.{IsOpeningPiece}
 use Rattle.tdb_overlay.proofs.ReadingLaws.{reads_nothing, reads_then}
 use Rattle.tdb_recover.specs.Chain.{IsBehind}
 use Rattle.tdb_recover.specs.Explained.{IsCaused, IsExplained}
+use Rattle.tdb_recover.specs.Reads.{ReadsOnly}
 use Rattle.tdb_recover.specs.Replay.{IsCommitIn, IsReplayOf, IsRest}
 use Rattle.tdb_recover.proofs.Answering.{if_err_and}
 use Rattle.tdb_recover.proofs.Behind.{reverse_push}
 use Rattle.tdb_recover.proofs.Composing.{caused_later, explained_then, given_before, tells_then, written_then, written_back}
+use Rattle.tdb_recover.proofs.Only.{only_as, only_none, only_then}
 use Rattle.tdb_recover.proofs.Rest.{list_opening, next_commit, rest_ends, rest_goes}
 use Rattle.tdb_recover.proofs.Showing.{explained_as}
 use Rattle.tdb_recover.proofs.replay.replay.Goals as goal
@@ -22,6 +24,9 @@ loop-text-init g c = record {
   done = ([], refl);
   behind = c.requires.commits;
   rest = λ t whole given rest ends. rest;
+  only = λ t whole given rest ends.
+      let old = g.P.Platform.outside c.args.platform.now in
+      only_none old old (IsOpeningPiece old.trace.written whole.store whole.anchor) refl;
 }
 
 pub loop-text-smaller : goal.loop-text-smaller
@@ -58,6 +63,15 @@ loop-text-preserved g c =
           (written_then outside states old mid first t (λ ws. IsReplayOf (needed ws whole.store whole.anchor) whole.store c.loop-text.log here.state) here.kept) in
           rest_goes (outside old).trace.written (outside new).trace keys whole given text (reverse left) here.state c.replay_list.new.log next
           (written_back outside states old mid first t (λ ws. IsReplayOf (needed ws whole.store whole.anchor) whole.store c.replay_list.new.log next.after) kept);
+      only = λ t whole given rest ends.
+          let then = tells_then outside states old mid first t in
+          let before = given_before (outside old).trace.written (outside mid).trace (outside new).trace keys whole (g.met.P.Platform.numbered mid then) (c.replay_list.ensures.reads.grows then) given in
+          only_then (outside old) (outside mid) (outside new) (IsOpeningPiece (outside old).trace.written whole.store whole.anchor) (so_far.only t whole before rest ends)
+          (only_as (outside mid) (outside new) (λ p. p ≡ text.first) (IsOpeningPiece (outside old).trace.written whole.store whole.anchor)
+          (λ piece same.
+          list_opening (outside old).trace.written (outside new).trace keys whole given base text so_far.done.0 (reverse left) (reverse c.args.chain.commits.items) piece ends
+          (so_far.done.1 ∙ ap (λ (l : List Commit). so_far.done.0 ++ l) popped) behind.0 same)
+          (c.in_ok-replay_list.ensures.only then));
     }
 
 pub returns-in_err-replay_list-clause-reads : goal.returns-in_err-replay_list-clause-reads
@@ -117,3 +131,6 @@ returns-clause-replayed g c t whole given rest ends =
     let none : c.loop-text.commits.items ≡ [] = nil_from_length c.loop-text.commits.items (sym c.loop-text.commits.ok.0 ∙ c.in_default.ensures.cases.0) in
     rest_ends old.trace.written new.trace c.args.keys.now whole given c.loop-text.log
     (subst (λ (l : List Commit). IsRest old.trace.written whole (reverse l) c.loop-text.log) none (c.loop-text.invariant.rest t whole given rest ends))
+
+pub returns-clause-only : goal.returns-clause-only
+returns-clause-only g c = c.loop-text.invariant.only

@@ -5,10 +5,12 @@ use Rattle.tdb_overlay.proofs.ReadingLaws.{reads_then}
 use Rattle.std.specs.List.{AllByRecursion}
 use Rattle.tdb_recover.specs.Chain.{EndsWith, IsBehind}
 use Rattle.tdb_recover.specs.Explained.{IsCaused, IsExplained}
+use Rattle.tdb_recover.specs.Reads.{ReadsOnly}
 use Rattle.tdb_recover.proofs.Answering.{if_err_and}
 use Rattle.tdb_recover.proofs.Behind.{behind_pushed, reverse_push}
 use Rattle.tdb_recover.proofs.Composing.{caused_later, explained_then, given_before, given_then, tells_then, written_then, written_back}
 use Rattle.tdb_recover.proofs.Ends.{base_not_later}
+use Rattle.tdb_recover.proofs.Only.{only_then}
 use Rattle.tdb_recover.proofs.Showing.{explained_as}
 use Rattle.tdb_recover.proofs.texts.read_chain.Goals as goal
 
@@ -19,6 +21,7 @@ loop-text-init g c = record {
   counts = let h = c.in_ok-text.ensures.counts in (omega (arith, h.0), omega (arith, h.1));
   commits = subst (λ (l : List Commit). AllByRecursion (IsBehind c.in_ok-text.text) (reverse l)) (sym c.new-commits.ensures.items) tt;
   ends = λ t log given at. subst (λ (l : List Commit). EndsWith (g.P.Platform.outside c.args.platform.now).trace.written c.args.keys.now log.chain c.in_ok-text.text (reverse l)) (sym c.new-commits.ensures.items) (c.in_ok-text.ensures.ends t log given at);
+  only = c.in_ok-text.ensures.only;
 }
 
 pub read_before-requires-clause-format : goal.read_before-requires-clause-format
@@ -89,6 +92,14 @@ loop-text-preserved g c =
           (written_then outside states old mid first t (λ ws. EndsWith ws keys log.chain text (reverse commits)) ends) in
           let here : EndsWith (outside old).trace.written keys log.chain earlier (text ∷ reverse commits) = written_back outside states old mid first t (λ ws. EndsWith ws keys log.chain earlier (text ∷ reverse commits)) next in
           subst (λ (l : List Commit). EndsWith (outside old).trace.written keys log.chain earlier l) (sym (ap (λ (l : List Commit). reverse l) c.in_ok-push.ensures.items ∙ reverse_push commits text)) here;
+      only = λ t log given at.
+          let then = tells_then outside states old mid first t in
+          let before = given_before (outside old).trace.written (outside mid).trace (outside new).trace keys log (g.met.P.Platform.numbered mid then) (c.read_before.ensures.reads.grows then) given in
+          let ends = so_far.ends t log before at in
+          only_then (outside old) (outside mid) (outside new) (IsOpeningPiece (outside old).trace.written log.store log.anchor) (so_far.only t log before at)
+          (written_back outside states old mid first t (λ ws. ReadsOnly (IsOpeningPiece ws log.store log.anchor) (outside mid) (outside new))
+          (c.in_ok-earlier.ensures.only then log (given_then outside states old mid first t (outside new).trace keys log given) (reverse commits)
+          (written_then outside states old mid first t (λ ws. EndsWith ws keys log.chain text (reverse commits)) ends)));
     }
 
 pub returns-clause-reads : goal.returns-clause-reads
@@ -112,3 +123,6 @@ returns-clause-commits g c = c.loop-text.invariant.commits
 
 pub returns-clause-ends : goal.returns-clause-ends
 returns-clause-ends g c = c.loop-text.invariant.ends
+
+pub returns-clause-only : goal.returns-clause-only
+returns-clause-only g c = c.loop-text.invariant.only

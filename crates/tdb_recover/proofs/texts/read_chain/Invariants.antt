@@ -2,7 +2,7 @@ use Rattle.std.proofs.Common.{◌-◌, ◌≡◌, ◌+◌, ◌≤◌, reverse}
 use Rattle.std.specs.List.{AllByRecursion}
 use Rattle.tdb_mark.specs.CommitFormat.{IsInFormat}
 use Rattle.tdb_overlay.specs.Reading.{OnlyReads}
-use Rattle.tdb_recover.specs.Chain.{EachLog, EndsWith, IsBehind}
+use Rattle.tdb_recover.specs.Chain.{EachLog, EndsWith, IsBehind, ReadsOnlyIn}
 use Rattle.tdb_recover.proofs.texts.read_chain.Given as goal
 
 abbrev pub invariant-loop-text : goal.invariant-loop-text
@@ -13,6 +13,8 @@ invariant-loop-text g l = record {
   commits : AllByRecursion (IsBehind l.text) (reverse l.commits.items);
   ends : EachLog (g.P.Platform.outside l.fn.platform) (g.P.Platform.outside l.platform) l.keys (λ log. log.anchor ≡ (l.count, l.mark.0)
       → EndsWith (g.P.Platform.outside l.fn.platform).trace.written l.keys log.chain l.text (reverse l.commits.items));
+  only : EachLog (g.P.Platform.outside l.fn.platform) (g.P.Platform.outside l.platform) l.keys (λ log. log.anchor ≡ (l.count, l.mark.0)
+      → ReadsOnlyIn (g.P.Platform.outside l.fn.platform) (g.P.Platform.outside l.platform) log);
 }
 
 abbrev pub decreases-loop-text : goal.decreases-loop-text

@@ -6,6 +6,7 @@ use Rattle.tdb_recover.specs.Chain.{EndsWith}
 use Rattle.tdb_recover.specs.Explained.{IsExplained}
 use Rattle.tdb_recover.proofs.Answering.{if_err_and}
 use Rattle.tdb_recover.proofs.Ends.{is_text_of, newest, newest_ends, newest_opening, newest_counts}
+use Rattle.tdb_recover.proofs.Only.{only_as}
 use Rattle.tdb_recover.proofs.Showing.{explained_as}
 use Rattle.tdb_recover.proofs.texts.read_newest.Goals as goal
 use Rattle.tdb_recover.proofs.texts.read_newest.Goals.{else-text-count-via-then-text-count+else-text-le-COMMITS_PER_CHECKPOINT, else-text-count-via-else-text-count}
@@ -43,3 +44,11 @@ returns-else-text-count-clause-explained g c t log given at =
       | else-text-count-via-then-text-count+else-text-le-COMMITS_PER_CHECKPOINT w ↦ omega (arith, w.if-text-le-COMMITS_PER_CHECKPOINT.false, counts.1, count, base)
       | else-text-count-via-else-text-count w ↦ w.if-text-count.false count
     ]
+
+pub returns-then-text-le-COMMITS_PER_CHECKPOINT-clause-only : goal.returns-then-text-le-COMMITS_PER_CHECKPOINT-clause-only
+returns-then-text-le-COMMITS_PER_CHECKPOINT-clause-only g c t log given at =
+    let old = g.P.Platform.outside c.args.platform.now in
+    let new = g.P.Platform.outside c.read_text.new.platform in
+    let last = newest old.trace.written new.trace c.args.keys.now log given c.args.count c.args.mark.now.0 at c.requires in
+    only_as old new (λ p. p ≡ record { place = record { 0 = slot_place c.args.count }; length = 256; digest = c.args.mark.now }) (IsOpeningPiece old.trace.written log.store log.anchor)
+    (λ piece same. newest_opening old.trace.written new.trace c.args.keys.now log given c.args.count c.args.mark.now piece c.requires last same) (c.in_ok-text.ensures.only t)

@@ -5,6 +5,7 @@ use Rattle.tdb_mark.specs.declared.commit.Commit.{Commit}
 use Rattle.tdb_mark.specs.CommitText.{commit_of}
 use Rattle.tdb_recover.specs.Explained.{IsExplained}
 use Rattle.tdb_recover.proofs.Answering.{if_err_and}
+use Rattle.tdb_recover.proofs.Only.{only_one}
 use Rattle.tdb_recover.proofs.Showing.{text_read, text_error, some_none}
 use Rattle.tdb_recover.proofs.texts.read_text.Goals as goal
 
@@ -35,3 +36,8 @@ returns-in-None-clause-explained g c t d of =
     let new = g.P.Platform.outside c.fetch_text.new.platform in
     let reads = text_read old.trace new.trace (slot_place c.args.count) 256 c.args.keys.now c.args.mark.now.0 c.in_ok-bytes.bytes d (c.in_ok-bytes.ensures.read t) c.in_ok-bytes.ensures.digest of in
     some_none d (c.in-None.ensures.value ∙ ap (λ (k : List ℕ). commit_of k c.in_ok-bytes.bytes) c.commit.ensures ∙ reads)
+
+pub returns-in-Some-clause-only : goal.returns-in-Some-clause-only
+returns-in-Some-clause-only g c t =
+    let piece : Piece = record { place = record { 0 = slot_place c.args.count }; length = 256; digest = c.args.mark.now } in
+    only_one (g.P.Platform.outside c.args.platform.now) (g.P.Platform.outside c.fetch_text.new.platform) piece c.in_ok-bytes.bytes (c.in_ok-bytes.ensures.read t)
