@@ -16,8 +16,8 @@ all_as P Q [] weaker all = tt
 all_as P Q (r ∷ reads) weaker all = (weaker r all.0, all_as P Q reads weaker all.1)
 
 -- nothing was read
-pub only_none : (old new : Outside) (pieces : Piece → Type 0) → new.trace ≡ old.trace → ReadsOnly pieces old new
-only_none old new pieces same = record { read = record { more = []; read = ap (λ (u : Trace). u.read) same ∙ sym (append-nil old.trace.read) }; each = tt }
+pub only_none : (old new : Outside) (pieces : Piece → Type 0) → new.trace.read ≡ old.trace.read → ReadsOnly pieces old new
+only_none old new pieces same = record { read = record { more = []; read = same ∙ sym (append-nil old.trace.read) }; each = tt }
 
 -- one piece was read
 pub only_one : (old new : Outside) (piece : Piece) (bytes : List ℕ) → new.trace ≡ with_read old.trace piece.place.0 piece.length bytes → ReadsOnly (λ p. p ≡ piece) old new

@@ -61,6 +61,7 @@ module _ {D : Type 0} (outside : D → Outside) (crash_states : D → CrashState
           allowed = longer.allowed;
           log = longer.log;
           at = longer.knows;
+          unread = call.unread told;
           any_moment = leaves_weaker outside crash_states old new _ _ (call.added told).any_moment (λ i a grown. part_of_grown a grown);
         }
 

@@ -57,13 +57,14 @@ module _ {D : Type 0} (outside : D → Outside) (crash_states : D → CrashState
     }
 
     module _ (new : D) (grows : Extends (outside mid).trace (outside new).trace) where
-      pub made_new : (kept : memory.Store) → IsCommitted outside crash_states store mid new history (formatted_state store) (opening_changes Plain) kept → HasMade outside crash_states store (IsNewStore store) old new history from kept
-      made_new kept c = record {
+      pub made_new : (kept : memory.Store) → (outside mid).trace.read ≡ (outside old).trace.read → IsCommitted outside crash_states store mid new history (formatted_state store) (opening_changes Plain) kept → HasMade outside crash_states store (IsNewStore store) old new history from kept
+      made_new kept unread c = record {
         begun = commit_after (formatted_state store) (opening_changes Plain);
         opened = c.to;
         begins = (c.allowed, refl);
         log = c.log;
         at = c.at;
+        unread = c.unread ∙ unread;
         any_moment =
             goes_on_by outside crash_states counts old mid new _
             (leaves_weaker outside crash_states old mid _ _ added.any_moment (λ i a grown. part_of_format new (commit_after (formatted_state store) (opening_changes Plain)) a grows grown)) c.any_moment;
@@ -109,6 +110,7 @@ module _ {D : Type 0} (outside : D → Outside) (crash_states : D → CrashState
         begins = inr (none, (c.allowed, refl));
         log = c.log;
         at = c.at;
+        unread = c.unread;
         any_moment = c.any_moment;
       }
 
@@ -138,6 +140,7 @@ module _ {D : Type 0} (outside : D → Outside) (crash_states : D → CrashState
       begins = inl (both, refl, refl);
       log = same_log (outside p).anchor refl;
       at = at;
+      unread = refl;
       any_moment = started outside crash_states counts p _ same_part;
     }
 

@@ -79,6 +79,7 @@ module _ {D : Type 0} (outside : D → Outside) (crash_states : D → CrashState
         allowed = longer.allowed;
         log = longer.log;
         at = longer.knows;
+        unread = call.unread told;
         any_moment = parts _ (λ i a grown. grown) (call.added told).any_moment;
       }
 

@@ -4,7 +4,7 @@ use Rattle.tdb_base.specs.declared.piece.Damage.{Damage}
 use Rattle.tdb_base.specs.declared.piece.Place.{Place}
 use Rattle.tdb_base.specs.declared.suite.Suite.{Suite}
 use Rattle.tdb_base.specs.declared.suite.Suite.TheVariants.{Plain}
-use Rattle.tdb_base.specs.Trace.{IsNumbered}
+use Rattle.tdb_base.specs.Trace.{Extends, IsNumbered}
 use Rattle.tdb_mark.specs.CommitText.{commit_key_of, commit_of}
 use Rattle.tdb_mark.proofs.UnforgedLemmas.{IsUnforged-before}
 use Rattle.tdb_model.specs.Apply.{History}
@@ -49,6 +49,15 @@ opened_store kept store o history from keys recovered is =
     ∙ ap (λ (n : ℕ). let t : Store = record { secret = store.secret; suite = Plain; segments = n } in t) segments
     ∙ ap (λ (s : Suite). let t : Store = record { secret = store.secret; suite = s; segments = store.segments } in t) (sym suite)
 
+-- what is taken for granted where the log is read, by what is so later
+pub premises_then : {D : Type 0} (outside : D → Outside) (crash_states : D → CrashStates) (counts : Counts outside crash_states) (numbered : (p : D) → IsTrue (outside p).tells → IsNumbered (outside p).trace)
+    (secret : List ℕ) (old mid new : D) (reads : OnlyReads outside crash_states old mid) (grows : IsTrue (outside mid).tells → Extends (outside mid).trace (outside new).trace) (store : Store) (same_secret : store.secret ≡ secret)
+    → IsTrue (outside old).tells → IsSound store (outside new) → (history : History) (from : StoreState) → IsLog (outside old).trace.written store (outside old).anchor history from
+    → Premises (outside old) (outside mid) secret store history from
+premises_then outside crash_states counts numbered secret old mid new reads grows store same_secret told sound history from is =
+    let on = reads_on outside crash_states counts old mid reads told in
+    record { tells = told; keys = same_secret; unforged = IsUnforged-before (outside mid).trace (outside new).trace (commit_of (commit_key_of store.secret)) (numbered mid on) (grows on) sound; log = is }
+
 module _ {D : Type 0} (outside : D → Outside) (crash_states : D → CrashStates) (counts : Counts outside crash_states) (numbered : (p : D) → IsTrue (outside p).tells → IsNumbered (outside p).trace)
     (secret : List ℕ) (old mid new : D) (reads : OnlyReads outside crash_states old mid) (kept : memory.Store) (goes : GoesOn (store_of kept) (outside mid) (outside new)) (keys : kept.keys ≡ secret)
     (recovered : (store : Store) (history : History) (last : StoreState) → Premises (outside old) (outside mid) secret store history last → IsRecovered (needed (outside old).trace.written store (outside old).anchor) store kept.log last)
@@ -56,9 +65,7 @@ module _ {D : Type 0} (outside : D → Outside) (crash_states : D → CrashState
   known : IsTrue (outside old).tells → IsSound store (outside new) → (history : History) (from : StoreState) → IsLog (outside old).trace.written store (outside old).anchor history from
       → (store_of kept ≡ store) × Knows (outside mid) kept from
   known told sound history from is =
-      let on = reads_on outside crash_states counts old mid reads told in
-      let earlier = IsUnforged-before (outside mid).trace (outside new).trace (commit_of (commit_key_of store.secret)) (numbered mid on) (goes.grows on) sound in
-      let r = recovered store history from (record { tells = told; keys = same_secret; unforged = earlier; log = is }) in
+      let r = recovered store history from (premises_then outside crash_states counts numbered secret old mid new reads goes.grows store same_secret told sound history from is) in
       let same = opened_store kept store (outside old) history from (keys ∙ sym same_secret) r is in (
         same,
         knows_still (outside old) (outside mid) kept from (reads.written told) (reads.anchor told)

@@ -12,7 +12,10 @@ use Rattle.tdb_overlay.specs.Growth.{IsSettled}
 use Rattle.tdb_overlay.specs.Intact.{IsIntact, StaysIntact}
 use Rattle.tdb_overlay.specs.Log.{IsLog}
 use Rattle.tdb_overlay.specs.Reading.{OnlyReads}
+use Rattle.tdb_overlay.specs.Required.{IsOpeningPiece}
 use Rattle.tdb_overlay.specs.StoreState.{StoreState}
+use Rattle.tdb_recover.specs.Reads.{ReadsOnly}
+use Rattle.tdb_recover.proofs.Only.{only_none, only_then}
 use Rattle.tdb_run.specs.Begin.{HasBegun, HasNotBegun, Opens, OverStart}
 use Rattle.tdb_run.specs.Making.{HasMade, HasNotMade}
 use Rattle.tdb_run.specs.Opened.{GoesOn}
@@ -86,13 +89,17 @@ module _ {D : Type 0} (outside : D → Outside) (crash_states : D → CrashState
       }
 
       module _ (new : D) where
-        pub begun_after : (history : History) (from : StoreState) (kept : memory.Store) → HasMade outside crash_states store opens mid new history from kept → HasBegun outside crash_states store opens old new history from kept
-        begun_after history from kept made = record {
+        pub begun_after : (history : History) (from : StoreState) (kept : memory.Store) → ReadsOnly (IsOpeningPiece (outside old).trace.written store (outside old).anchor) (outside old) (outside mid)
+            → HasMade outside crash_states store opens mid new history from kept → HasBegun outside crash_states store opens old new history from kept
+        begun_after history from kept only made = record {
           begun = made.begun;
           opened = made.opened;
           begins = made.begins;
           log = made.log;
           at = made.at;
+          only_opening =
+              let pieces = IsOpeningPiece (outside old).trace.written store (outside old).anchor in
+              only_then (outside old) (outside mid) (outside new) pieces only (only_none (outside mid) (outside new) pieces made.unread);
           any_moment = settles outside crash_states counts old mid new _ reads.left made.any_moment;
         }
 
@@ -104,9 +111,10 @@ module _ {D : Type 0} (outside : D → Outside) (crash_states : D → CrashState
           stops = inr (record { left = made.left; any_moment = settles outside crash_states counts old mid new _ reads.left made.any_moment });
         }
 
-        pub begun_over : (kept : memory.Store) → OverStart outside mid new store (λ history from. HasMade outside crash_states store opens mid new history from kept)
+        pub begun_over : (kept : memory.Store) → (IsTrue (outside old).tells → (outside mid).trace ≡ (outside old).trace) → OverStart outside mid new store (λ history from. HasMade outside crash_states store opens mid new history from kept)
             → OverStart outside old new store (λ history from. HasBegun outside crash_states store opens old new history from kept)
-        begun_over kept made told sound history from is = begun_after history from kept (made (reads_on told) sound history from (log_read store history from told is))
+        begun_over kept same made told sound history from is =
+            begun_after history from kept (only_none (outside old) (outside mid) (IsOpeningPiece (outside old).trace.written store (outside old).anchor) (ap (λ (t : Trace). t.read) (same told))) (made (reads_on told) sound history from (log_read store history from told is))
 
         pub not_begun_over : (status : Status) → OverStart outside mid new store (λ history from. HasNotMade outside crash_states store opens mid new history from)
             → OverStart outside old new store (λ history from. HasNotBegun outside crash_states store opens old new history from status)

@@ -129,6 +129,7 @@ module _ {D : Type 0} (outside : D → Outside) (crash_states : D → CrashState
                   begins = b.begins;
                   started = outside mid;
                   starts = starts;
+                  only_opening = b.only_opening;
                   begun_log = b.log;
                   moment = r.moment;
                   ends = r.goes_on;

@@ -18,6 +18,7 @@ use Rattle.tdb_overlay.specs.Log.{IsLog}
 use Rattle.tdb_overlay.specs.Required.{IsOpeningPiece}
 use Rattle.tdb_overlay.specs.StoreState.{StoreState, commit_on, formatted_state}
 use Rattle.tdb_recover.specs.Damaged.{IsDamageOf}
+use Rattle.tdb_recover.specs.Reads.{ReadsOnly}
 use Rattle.tdb_run.specs.LineResult.{HasAllOf, HasPartOf}
 use Rattle.tdb_run.specs.NotesCommit.{commit_after}
 use Rattle.tdb_run.specs.Opened.{IsSound}
@@ -65,13 +66,15 @@ abbrev pub OverStart : {D : Type 0} → (D → Outside) → D → D → Store �
 OverStart outside old new store holds =
     IsTrue (outside old).tells → IsSound store (outside new) → (history : History) (from : StoreState) → IsLog (outside old).trace.written store (outside old).anchor history from → holds history from
 
--- The store is open, in this state. A stop since the anchor was told leaves the log with or without what was committed.
+-- The store is open, in this state. No piece was read but those that opening the log of the start reads, and a stop since the
+-- anchor was told leaves the log with or without what was committed.
 pub record HasBegun {D : Type 0} (outside : D → Outside) (crash_states : D → CrashStates) (store : Store) (opens : StoreState → History → StoreState → Type 0) (old new : D) (history : History) (from : StoreState) (kept : memory.Store) : Type 0 where
   pub begun : History
   pub opened : StoreState
   pub begins : opens from begun opened
   pub log : IsLog (outside new).trace.written store (outside new).anchor (history ++ begun) opened
   pub at : Knows (outside new) kept opened
+  pub only_opening : ReadsOnly (IsOpeningPiece (outside old).trace.written store (outside old).anchor) (outside old) (outside new)
   pub any_moment : Settles outside crash_states old new (λ i a. HasPartOf (outside new).trace.written store history begun a)
 
 -- What a stop leaves of calls that made some commits for sure, and maybe others.

@@ -19,13 +19,14 @@ use Rattle.tdb_run.specs.declared.status.Refusal.TheVariants.{Full, Ring, Counte
 use Rattle.tdb_run.specs.declared.status.Status.{Status}
 use Rattle.tdb_run.specs.declared.status.Status.TheVariants.{Done, Usage, AnchorCount, Damaged, PlatformFault, SourceFault, SinkFault, Memory, End, Refused}
 
--- the store is open in this state
+-- the store is open in this state, and nothing was read
 pub record HasMade {D : Type 0} (outside : D → Outside) (crash_states : D → CrashStates) (store : Store) (opens : StoreState → History → StoreState → Type 0) (old new : D) (history : History) (from : StoreState) (kept : memory.Store) : Type 0 where
   pub begun : History
   pub opened : StoreState
   pub begins : opens from begun opened
   pub log : IsLog (outside new).trace.written store (outside new).anchor (history ++ begun) opened
   pub at : Knows (outside new) kept opened
+  pub unread : (outside new).trace.read ≡ (outside old).trace.read
   pub any_moment : LeavesOnly outside crash_states old new (λ i a. HasPartOf (outside new).trace.written store history begun a)
 
 -- It isn't. The commits before the script may have been made.

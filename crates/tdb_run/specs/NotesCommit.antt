@@ -18,12 +18,13 @@ use Rattle.tdb_chunk.specs.declared.store.Store as memory
 abbrev pub commit_after : StoreState → List Change → History
 commit_after from changes = (from.count + 1, changes) ∷ []
 
--- the commit was made
+-- the commit was made, and nothing was read
 pub record IsCommitted {D : Type 0} (outside : D → Outside) (crash_states : D → CrashStates) (store : Store) (old new : D) (history : History) (from : StoreState) (changes : List Change) (kept : memory.Store) : Type 0 where
   pub to : StoreState
   pub allowed : commit_on store from changes ≡ Ok to
   pub log : IsLog (outside new).trace.written store (outside new).anchor (history ++ commit_after from changes) to
   pub at : Knows (outside new) kept to
+  pub unread : (outside new).trace.read ≡ (outside old).trace.read
   pub any_moment : LeavesOnly outside crash_states old new (λ i a. HasPartOf (outside new).trace.written store history (commit_after from changes) a)
 
 -- it was refused, by the reply

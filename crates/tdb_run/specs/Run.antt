@@ -11,7 +11,9 @@ use Rattle.tdb_overlay.specs.Found.{Store}
 use Rattle.tdb_overlay.specs.Growth.{IsSettled}
 use Rattle.tdb_overlay.specs.Log.{IsLog}
 use Rattle.tdb_overlay.specs.Reading.{OnlyReads}
+use Rattle.tdb_overlay.specs.Required.{IsOpeningPiece}
 use Rattle.tdb_overlay.specs.StoreState.{StoreState}
+use Rattle.tdb_recover.specs.Reads.{ReadsOnly}
 use Rattle.tdb_run.specs.Begin.{HasUserPartitions, IsEarlyStop, IsExplainedStop, IsNewStore, IsReopened, LeavesLog, LeavesLogOrNothing, Opens, OverStart}
 use Rattle.tdb_run.specs.Command.{IsFormat, IsNoCommand, IsOfNewStore, IsRun, IsStart}
 use Rattle.tdb_run.specs.LastLine.{EndsWith}
@@ -43,12 +45,14 @@ abbrev pub IsWithoutScript : Status → Type 0
 IsWithoutScript (Done (Formatted segments)) = Unit {0}
 IsWithoutScript status = ⊥
 
--- The lines were a session from the state in which the store was opened, and from the log that the anchor had then.
+-- The lines were a session from the state in which the store was opened, and from the log that the anchor had then. Before it
+-- no piece was read but those that opening the log of the start reads: none where a store was made.
 pub record HasScript {came gone : SourceContent} (store : Store) (c : Conversation came gone) (opens : StoreState → History → StoreState → Type 0) (old new : Outside) (history : History) (from : StoreState) (status : Status) (begun : History) (answers : List Answer) (maybe : History) : Type 0 where
   pub opened : StoreState
   pub begins : opens from begun opened
   pub started : Outside
   pub starts : Extends old.trace started.trace
+  pub only_opening : ReadsOnly (IsOpeningPiece old.trace.written store old.anchor) old started
   pub begun_log : IsLog started.trace.written store started.anchor (history ++ begun) opened
   pub moment : Outside
   pub ends : Extends moment.trace new.trace

@@ -1,5 +1,5 @@
-use Rattle.std.proofs.Common.{List, sym}
-use Rattle.tdb_base.specs.Trace.{WrittenPiece}
+use Rattle.std.proofs.Common.{List, ap, sym}
+use Rattle.tdb_base.specs.Trace.{Trace, WrittenPiece}
 use Rattle.tdb_overlay.specs.Needed.{needed}
 use Rattle.tdb_overlay.specs.Recovered.{IsRecovered}
 use Rattle.tdb_overlay.specs.Required.{IsOpeningPiece}
@@ -96,7 +96,7 @@ returns-clause-only_opening g c =
     let t = premises.tells in
     let whole = whole_log (outside old) (outside new) keys store history last premises in
     let pieces = IsOpeningPiece (outside old).trace.written store (outside old).anchor in
-    only_then (outside old) (outside mid) (outside new) pieces (only_none (outside old) (outside mid) pieces (c.anchor.ensures.trace t))
+    only_then (outside old) (outside mid) (outside new) pieces (only_none (outside old) (outside mid) pieces (ap (λ (u : Trace). u.read) (c.anchor.ensures.trace t)))
     (written_back outside states old mid first t (λ (ws : List WrittenPiece). ReadsOnly (IsOpeningPiece ws store (outside old).anchor) (outside mid) (outside new))
     (is (tells_then outside states old mid first t) whole
     (given_then outside states old mid first t (outside new).trace keys whole (is_given (outside old) (outside new) keys store history last premises)) (sym (c.in-Ok.ensures.given t)))))

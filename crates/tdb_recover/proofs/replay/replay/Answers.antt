@@ -7,7 +7,6 @@ use Rattle.tdb_overlay.specs.Required.{IsOpeningPiece}
 use Rattle.tdb_overlay.proofs.ReadingLaws.{reads_nothing, reads_then}
 use Rattle.tdb_recover.specs.Chain.{IsBehind}
 use Rattle.tdb_recover.specs.Explained.{IsCaused, IsExplained}
-use Rattle.tdb_recover.specs.Reads.{ReadsOnly}
 use Rattle.tdb_recover.specs.Replay.{IsCommitIn, IsReplayOf, IsRest}
 use Rattle.tdb_recover.proofs.Answering.{if_err_and}
 use Rattle.tdb_recover.proofs.Behind.{reverse_push}

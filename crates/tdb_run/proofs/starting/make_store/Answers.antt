@@ -57,7 +57,7 @@ returns-in-Ok-make_partitions-clause-made g c told sound history from is =
     let made : OverLog outside mid new store c.in-Ok.store (λ history from. IsCommitted outside crash_states store mid new history from (opening_changes Plain) c.make_partitions.new.store) =
     subst (λ (k : Store). OverLog outside mid new k c.in-Ok.store (λ history from. IsCommitted outside crash_states k mid new history from (opening_changes Plain) c.make_partitions.new.store)) c.in-Ok.ensures.store c.in-Ok-make_partitions.ensures.committed in
     let log = formatted_log outside crash_states g.met.P.Platform.counts store old mid c.in-Ok.store (c.in-Ok.ensures.added told) history from earlier is in
-    made_new outside crash_states g.met.P.Platform.counts store old mid c.format.result (c.format.ensures.added told) history from earlier is new grows c.make_partitions.new.store
+    made_new outside crash_states g.met.P.Platform.counts store old mid c.format.result (c.format.ensures.added told) history from earlier is new grows c.make_partitions.new.store (c.format.ensures.unread told)
     (made on sound history (formatted_state store) log c.in-Ok.ensures.knows)
 
 pub returns-in-Ok-make_partitions-clause-goes_on : goal.returns-in-Ok-make_partitions-clause-goes_on

@@ -46,7 +46,7 @@ returns-in-Ok-eq0-default-clause-begun g c =
     (λ history from. HasMade outside crash_states (plain_store k c.args.segments) (IsNewStore (plain_store k c.args.segments)) mid new history from s))) c.new.ensures c.make_store.ensures.made in
     if_ok (λ (s : memory.Store). OverStart outside mid new store (λ history from. HasMade outside crash_states store (IsNewStore store) mid new history from s))
     (λ (s : memory.Store). OverStart outside old new store (λ history from. HasBegun outside crash_states store (IsNewStore store) old new history from s)) c.make_store.result
-    (λ s is. begun_over outside crash_states counts old mid reads store (IsNewStore store) new s is) made
+    (λ s is. begun_over outside crash_states counts old mid reads store (IsNewStore store) new s a.trace is) made
 
 pub returns-in-Ok-eq0-default-clause-not_begun : goal.returns-in-Ok-eq0-default-clause-not_begun
 returns-in-Ok-eq0-default-clause-not_begun g c =

@@ -13,7 +13,7 @@ use Rattle.tdb_run.specs.ScriptServed.{OverLog}
 use Rattle.tdb_run.specs.declared.status.Status.{Status}
 use Rattle.tdb_run.proofs.RunBeginning.{begun_after, if_err, if_ok_both, intact_read, not_begun_after, reads_goes}
 use Rattle.tdb_run.proofs.Over.{goes_along}
-use Rattle.tdb_run.proofs.Reopening.{explained_earlier, explained_error, not_begun_error, over_opened}
+use Rattle.tdb_run.proofs.Reopening.{explained_earlier, explained_error, not_begun_error, over_opened, premises_then}
 use Rattle.tdb_overlay.specs.Growth.{IsSettled}
 use Rattle.tdb_overlay.specs.Reading.{OnlyReads}
 use Rattle.tdb_run.specs.Served.{WasRefused}
@@ -35,7 +35,9 @@ returns-in-Ok-clause-begun g c store secret =
     let k = over_opened outside crash_states counts g.met.P.Platform.numbered c.new-keys.result old mid new reads c.open.result c.with_partitions.ensures.goes_on c.open.ensures.keys
     (λ st h last premises. subst (λ (r : Recovered). IsRecovered (needed (outside old).trace.written st (outside old).anchor) st r last) (sym c.open.ensures.log) (c.in-Ok.ensures.recovered st h last premises)) store (secret ∙ sym c.new-keys.ensures)
     (λ st h f. HasMade outside crash_states st (IsReopened st) mid new h f s) made told sound history from is in
-    (same ∙ k.0, begun_after outside crash_states counts old mid reads store (IsReopened store) new history from s k.1))
+    let only = c.in-Ok.ensures.only_opening store history from
+    (premises_then outside crash_states counts g.met.P.Platform.numbered c.new-keys.result old mid new reads c.with_partitions.ensures.goes_on.grows store (secret ∙ sym c.new-keys.ensures) told sound history from is) in
+    (same ∙ k.0, begun_after outside crash_states counts old mid reads store (IsReopened store) new history from s only k.1))
     c.with_partitions.ensures.made c.with_partitions.ensures.same_store
 
 pub returns-in-Ok-clause-not_begun : goal.returns-in-Ok-clause-not_begun
