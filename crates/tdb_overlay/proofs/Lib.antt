@@ -1,4 +1,5 @@
 pub mod Chains
+pub mod CheckpointLaws
 pub mod Coverings
 pub mod KeptCovers
 pub mod Lengths
