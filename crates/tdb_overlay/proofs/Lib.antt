@@ -9,3 +9,5 @@ pub mod Placings
 pub mod ReadingLaws
 pub mod Steps
 pub mod Unmistaken
+pub mod Leading
+pub mod RunsOn

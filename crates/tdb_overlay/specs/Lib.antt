@@ -20,3 +20,5 @@ pub mod SealedOnly
 pub mod Sound
 pub mod StoreState
 pub mod WellFormedLog
+pub mod Leading
+pub mod RanOn
