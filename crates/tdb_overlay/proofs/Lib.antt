@@ -3,9 +3,13 @@ pub mod CheckpointLaws
 pub mod Coverings
 pub mod KeptCovers
 pub mod Lengths
+pub mod Listed
 pub mod LogLaws
 pub mod Needing
+pub mod OneLog
+pub mod PlacedLogs
 pub mod Placings
+pub mod PutLogs
 pub mod ReadingLaws
 pub mod Steps
 pub mod Unmistaken
