@@ -1,6 +1,7 @@
 pub mod Chains
 pub mod CheckpointLaws
 pub mod Coverings
+pub mod ImageLaws
 pub mod KeptCovers
 pub mod Lengths
 pub mod Listed
@@ -11,5 +12,6 @@ pub mod PlacedLogs
 pub mod Placings
 pub mod PutLogs
 pub mod ReadingLaws
+pub mod RequiredLaws
 pub mod Steps
 pub mod Unmistaken

@@ -56,7 +56,7 @@ placed_as space (piece ∷ pieces) keep after valid lengths is =
       (rest.0 piece.place.0 piece.length (now-placed space piece.place piece.length one.fresh), rest.1),
     )
 
-is_none : (r : Option Piece) → IsNone r → r ≡ None
+pub is_none : (r : Option Piece) → IsNone r → r ≡ None
 is_none None none = refl
 is_none (Some p) none = absurd (cc none)
 
