@@ -1,5 +1,5 @@
 -- What a checkpoint's root tells stays as more is found.
-use Rattle.std.proofs.Common.{◌≡◌, List, Option, ◌∙◌, sym}
+use Rattle.std.proofs.Common.{◌≡◌, Option, None, ◌∙◌, sym}
 use Rattle.tdb_base.specs.declared.piece.Piece.{Piece}
 use Rattle.tdb_model.specs.State.{State}
 use Rattle.tdb_overlay.specs.CheckpointState.{IsReached, IsTreeState}
@@ -19,3 +19,7 @@ module _ (f g : Finds) (finer : Finer f g) where
 -- A root tells one state.
 pub tree_is_one : (f : Finds) → FindsOne f → (store : Store) (root : Option Piece) (a b : State) → IsTreeState f store root a → IsTreeState f store root b → a ≡ b
 tree_is_one f one store root a b is_a is_b = is_a.1 ∙ sym is_b.1
+
+-- Without a root nothing is reached.
+pub none_reached : (f : Finds) (store : Store) (piece : Piece) → IsReached f store None piece → ⊥
+none_reached f store piece reached = reached

@@ -16,6 +16,7 @@ pub mod Placement
 pub mod Reading
 pub mod Recovered
 pub mod Required
+pub mod RequiredPlaces
 pub mod SealedOnly
 pub mod Sound
 pub mod StoreState

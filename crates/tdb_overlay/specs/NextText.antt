@@ -1,5 +1,5 @@
 -- A text that may come next in a log, with the pieces that are written before it.
-use Rattle.std.specs.Prelude.{◌≡◌, ◌⊎◌, ℕ, ◌≤◌, List, All, AllPairs, Some, replicate}
+use Rattle.std.specs.Prelude.{◌≡◌, ◌⊎◌, ℕ, ◌+◌, ◌≤◌, List, All, AllPairs, Some, replicate}
 use Rattle.tdb_append.specs.Placed.{Placed, FitsOneSegment, IsApart}
 use Rattle.tdb_base.specs.declared.piece.Piece.{Piece}
 use Rattle.tdb_base.specs.Trace.{WrittenPiece}
@@ -23,7 +23,7 @@ pub record IsLaidText (secret text : List ℕ) (c : Commit) (pieces : List Place
   pub in_segments : All FitsOneSegment pieces
   pub apart : AllPairs IsApart pieces
 
--- the mark that the text names: that of the anchor, or zeros where there was no text
+-- the text names the anchor's mark, or zeros where there was no text
 abbrev pub NamesMark : Anchor → Commit → Type 0
 NamesMark anchor c = ((anchor.0 ≡ 0) × (c.prev.0 ≡ replicate 32 0)) ⊎ ((1 ≤ anchor.0) × (c.prev.0 ≡ anchor.1))
 
@@ -31,9 +31,11 @@ NamesMark anchor c = ((anchor.0 ≡ 0) × (c.prev.0 ≡ replicate 32 0)) ⊎ ((1
 abbrev pub FindsAll : List WrittenPiece → List Placed → List WrittenPiece → Type 0
 FindsAll written pieces later = Finer (in_trace written) (in_trace later) × Finer (in_pieces pieces) (in_trace later)
 
--- The text comes next after a log that ends at the anchor in the state `from`. The pieces stand where nothing was placed. As soon as
+-- The text comes next after a log that ends at the anchor in the state `from`: it has the next count and names the anchor's mark. The
+-- pieces stand where nothing was placed. As soon as
 -- they are written, the text is a step; and it rests on itself, on the pieces, and on what the log needed.
 pub record IsNextText (written : List WrittenPiece) (store : Store) (anchor : Anchor) (from : StoreState) (c : Commit) (pieces : List Placed) (added : History) (to : StoreState) : Type 0 where
+  pub count : c.count ≡ anchor.0 + 1
   pub mark : NamesMark anchor c
   pub fresh : All (IsFreshIn from.space) pieces
   pub step : (later : List WrittenPiece) → FindsAll written pieces later → IsStep (in_trace later) store from c added to
