@@ -44,7 +44,8 @@ use Rattle.tdb_chunk.proofs.Committing.{allowed_on, next_known, next_step}
 use Rattle.tdb_chunk.proofs.Growing.{Counts, Steps, added_err, added_ok, none_added, put_added}
 use Rattle.tdb_chunk.proofs.Keeping.{put_keeps}
 use Rattle.tdb_chunk.proofs.Laying.{sealed_none}
-use Rattle.tdb_chunk.proofs.Logs.{found_in_put, grows_all, put_adds, longer_chain, follows_is, unread_by}
+use Rattle.tdb_overlay.proofs.PutLogs.{found_in_put, grows_all, longer_chain, follows_is, unread_by}
+use Rattle.tdb_chunk.proofs.Logs.{put_adds}
 use Rattle.std.proofs.lemmas.List.{append-nil}
 
 no_fault : (e : CommitError) → ◌≡◌ {A = CommitError} e Fault → IsTrue (is_refusal e) → ⊥

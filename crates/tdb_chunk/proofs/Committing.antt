@@ -45,7 +45,7 @@ use Rattle.tdb_chunk.specs.Preparing.{IsNext, IsPrepared}
 use Rattle.tdb_chunk.specs.Text.{next_commit}
 use Rattle.tdb_chunk.specs.declared.store.Store as memory
 use Rattle.tdb_overlay.proofs.LogLaws.{Finer, changes_stay, list_stays}
-use Rattle.tdb_chunk.proofs.Logs.{in_later_trace}
+use Rattle.tdb_overlay.proofs.PutLogs.{in_later_trace}
 
 one_of_last : (ps : List Placed) (p : Placed) → IsOneOf (ps ++ p ∷ []) p.place p.bytes
 one_of_last [] p = inl (refl, refl)
@@ -192,7 +192,7 @@ module _ (o : Outside) (was : memory.Store) (entries : List Entry) (before : Lis
 
     -- Behind it, where the log of the anchor is one text longer.
     module _ (u : Outside) (chain : List Commit) (before_h : History) (grows : Extends o.trace u.trace) (finer : Finer (in_pieces ps) (in_trace u.trace.written))
-        (ends : commit_chain o.trace.written (commit_of (commit_key_of was.keys)) o.anchor.0 o.anchor.1 ≡ Some chain) (tells : IsLogOf (in_trace o.trace.written) (store_of was) (first_state (store_of was)) chain before_h last)
+        (ends : commit_chain o.trace.written (commit_of (commit_key_of was.keys)) o.anchor.0 o.anchor.1 ≡ Some chain) (tells : IsLogOf (in_trace o.trace.written) (store_of was) first_state chain before_h last)
         (longer : commit_chain u.trace.written (commit_of (commit_key_of was.keys)) u.anchor.0 u.anchor.1 ≡ Some (chain ++ c ∷ [])) where
       based : was.log.head.base ≡ base_of chain
       based =

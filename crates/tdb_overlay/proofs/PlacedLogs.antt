@@ -61,7 +61,7 @@ is_none None none = refl
 is_none (Some p) none = absurd (cc none)
 
 -- The table of a checkpoint is placed in the segments that it tells.
-table_placed : (f : Finds) (secret : List ℕ) (c : Commit) → IsInFormat c → (has : HasTable f secret c) → IsSegmentSpace (table_space has.table (end_of c.first)) × IsIn (table_space has.table (end_of c.first)) c.first
+pub table_placed : (f : Finds) (secret : List ℕ) (c : Commit) → IsInFormat c → (has : HasTable f secret c) → IsSegmentSpace (table_space has.table (end_of c.first)) × IsIn (table_space has.table (end_of c.first)) c.first
 table_placed f secret c format has =
     let k : ℕ = format.first.0 in
     let lies : LiesInSegment c.first.place.0 c.first.length k = format.first.2 in

@@ -14,7 +14,7 @@ pub returns-clause-ran : goal.returns-clause-ran
 returns-clause-ran g c came gone k untaken no_line no_reply no_next told sound history from is =
     let outside = g.P.Platform.outside in
     let crash_states = g.P.Platform.crash_states in
-    let store : Store = plain_store c.args.secret.now c.args.segments in
+    let store : Store = plain_store c.args.secret.now in
     let old = c.args.platform.now in
     let new = c.new_store.new.platform in
     elim c.match-new_store.branch [
@@ -30,5 +30,5 @@ returns-clause-ran g c came gone k untaken no_line no_reply no_next told sound h
 
 pub returns-clause-intact : goal.returns-clause-intact
 returns-clause-intact g c store secret told =
-    new_store_intact store (plain_store c.args.secret.now c.args.segments) (g.P.Platform.outside c.args.platform.now) (g.P.Platform.outside c.new_store.new.platform) secret (c.new_store.ensures.untouched told)
+    new_store_intact store (plain_store c.args.secret.now) (g.P.Platform.outside c.args.platform.now) (g.P.Platform.outside c.new_store.new.platform) secret (c.new_store.ensures.untouched told)
     (c.new_store.ensures.whole told)

@@ -30,11 +30,11 @@ the_refusal status refusal is = let same : status ≡ Refused refusal = cc in ap
 
 pub returns-in-Err-Memory-clause-not_made : goal.returns-in-Err-Memory-clause-not_made
 returns-in-Err-Memory-clause-not_made g c told sound history from is =
-    not_formatted g.P.Platform.outside g.P.Platform.crash_states g.met.P.Platform.counts (plain_store c.args.keys c.args.segments) c.args.platform.now c.format.new.platform c.format.result (c.format.ensures.added told) history from sound is
+    not_formatted g.P.Platform.outside g.P.Platform.crash_states g.met.P.Platform.counts (plain_store c.args.keys) c.args.platform.now c.format.new.platform c.format.result (c.format.ensures.added told) history from sound is
 
 pub returns-in-Err-Fault-clause-not_made : goal.returns-in-Err-Fault-clause-not_made
 returns-in-Err-Fault-clause-not_made g c told sound history from is =
-    not_formatted g.P.Platform.outside g.P.Platform.crash_states g.met.P.Platform.counts (plain_store c.args.keys c.args.segments) c.args.platform.now c.format.new.platform c.format.result (c.format.ensures.added told) history from sound is
+    not_formatted g.P.Platform.outside g.P.Platform.crash_states g.met.P.Platform.counts (plain_store c.args.keys) c.args.platform.now c.format.new.platform c.format.result (c.format.ensures.added told) history from sound is
 
 pub returns-in-Err-Fault-clause-whole : goal.returns-in-Err-Fault-clause-whole
 returns-in-Err-Fault-clause-whole g c = c.format.ensures.whole
@@ -47,7 +47,7 @@ pub returns-in-Ok-make_partitions-clause-made : goal.returns-in-Ok-make_partitio
 returns-in-Ok-make_partitions-clause-made g c told sound history from is =
     let outside = g.P.Platform.outside in
     let crash_states = g.P.Platform.crash_states in
-    let store : Store = plain_store c.args.keys c.args.segments in
+    let store : Store = plain_store c.args.keys in
     let old = c.args.platform.now in
     let mid = c.format.new.platform in
     let new = c.make_partitions.new.platform in
@@ -62,14 +62,14 @@ returns-in-Ok-make_partitions-clause-made g c told sound history from is =
 
 pub returns-in-Ok-make_partitions-clause-goes_on : goal.returns-in-Ok-make_partitions-clause-goes_on
 returns-in-Ok-make_partitions-clause-goes_on g c =
-    goes_along (plain_store c.args.keys c.args.segments) (store_of c.in-Ok.store) (g.P.Platform.outside c.args.platform.now) (g.P.Platform.outside c.format.new.platform) (g.P.Platform.outside c.make_partitions.new.platform)
+    goes_along (plain_store c.args.keys) (store_of c.in-Ok.store) (g.P.Platform.outside c.args.platform.now) (g.P.Platform.outside c.format.new.platform) (g.P.Platform.outside c.make_partitions.new.platform)
     (ap (λ (s : Store). s.secret) c.in-Ok.ensures.store)
     (record { tells = c.format.ensures.tells; honest = c.format.ensures.honest; faults = c.format.ensures.no_fewer; grows = λ told. (c.format.ensures.added told).grows; sealed = c.format.ensures.sealed }) c.make_partitions.ensures.goes_on
 
 pub returns-in-Ok-make_partitions-clause-whole : goal.returns-in-Ok-make_partitions-clause-whole
 returns-in-Ok-make_partitions-clause-whole g c =
     let outside = g.P.Platform.outside in
-    let store : Store = plain_store c.args.keys c.args.segments in
+    let store : Store = plain_store c.args.keys in
     let old = c.args.platform.now in
     let mid = c.format.new.platform in
     let new = c.make_partitions.new.platform in
@@ -81,7 +81,7 @@ pub returns-in-Err-clause-not_made : goal.returns-in-Err-clause-not_made
 returns-in-Err-clause-not_made g c told sound history from is =
     let outside = g.P.Platform.outside in
     let crash_states = g.P.Platform.crash_states in
-    let store : Store = plain_store c.args.keys c.args.segments in
+    let store : Store = plain_store c.args.keys in
     let old = c.args.platform.now in
     let mid = c.format.new.platform in
     let new = c.make_partitions.new.platform in
@@ -95,7 +95,7 @@ returns-in-Err-clause-not_made g c told sound history from is =
 
 pub returns-in-Err-clause-never_refused : goal.returns-in-Err-clause-never_refused
 returns-in-Err-clause-never_refused g c refusal is =
-    let store : Store = plain_store c.args.keys c.args.segments in
+    let store : Store = plain_store c.args.keys in
     let mid = g.P.Platform.outside c.format.new.platform in
     let neither = has_neither (needed mid.trace.written (store_of c.in-Ok.store) mid.anchor) (store_of c.in-Ok.store).secret c.in-Ok.store.log.overlay no_partitions c.in-Ok.ensures.knows.chunks none_at_first in
     let passes = makes_check mid c.in-Ok.store neither (formatted_state store) c.in-Ok.ensures.knows in
@@ -106,14 +106,14 @@ returns-in-Err-clause-never_refused g c refusal is =
 
 pub returns-in-Err-clause-goes_on : goal.returns-in-Err-clause-goes_on
 returns-in-Err-clause-goes_on g c =
-    goes_along (plain_store c.args.keys c.args.segments) (store_of c.in-Ok.store) (g.P.Platform.outside c.args.platform.now) (g.P.Platform.outside c.format.new.platform) (g.P.Platform.outside c.make_partitions.new.platform)
+    goes_along (plain_store c.args.keys) (store_of c.in-Ok.store) (g.P.Platform.outside c.args.platform.now) (g.P.Platform.outside c.format.new.platform) (g.P.Platform.outside c.make_partitions.new.platform)
     (ap (λ (s : Store). s.secret) c.in-Ok.ensures.store)
     (record { tells = c.format.ensures.tells; honest = c.format.ensures.honest; faults = c.format.ensures.no_fewer; grows = λ told. (c.format.ensures.added told).grows; sealed = c.format.ensures.sealed }) c.make_partitions.ensures.goes_on
 
 pub returns-in-Err-clause-whole : goal.returns-in-Err-clause-whole
 returns-in-Err-clause-whole g c =
     let outside = g.P.Platform.outside in
-    let store : Store = plain_store c.args.keys c.args.segments in
+    let store : Store = plain_store c.args.keys in
     let old = c.args.platform.now in
     let mid = c.format.new.platform in
     let new = c.make_partitions.new.platform in
