@@ -3,6 +3,7 @@ pub mod CheckpointLaws
 pub mod Coverings
 pub mod ImageLaws
 pub mod KeptCovers
+pub mod KeptLaws
 pub mod Lengths
 pub mod Listed
 pub mod LogLaws
