@@ -240,3 +240,19 @@ module _ (store : Store) (t u : Trace) (anchor : Anchor) (text : List ℕ) (c : 
         last_one : (qs : List Placed) → IsOneOf (qs ++ slot ∷ []) slot.place text
         last_one [] = inl (refl, refl)
         last_one (q ∷ qs) = inr (last_one qs)
+
+-- Sealed records alone keep it well formed.
+pub records_keep : (secret : List ℕ) (t : Trace) (ps : List Placed) (anchor : Anchor) → All (λ (p : Placed). IsRecord secret p.bytes) ps → IsWellFormedLog t.written secret anchor → IsWellFormedLog (with_all_written t ps).written secret anchor
+records_keep secret t ps anchor records kept =
+    let grown : Extends t (with_all_written t ps) = grows_all t ps in
+    record {
+      pieces = λ bytes was. ⊎_elim (λ earlier. kept.pieces bytes earlier) (λ one. inl (record_of one.0 bytes one.1)) (written_in_put t ps bytes was);
+      texts = λ bytes c was accepted. ⊎_elim
+          (λ earlier. subst (λ (ws : List WrittenPiece). TextLog ws secret bytes c (λ last. Unit {0})) (sym grown.written) (text_log_stays t.written grown.more_written secret bytes c (kept.texts bytes c earlier accepted)))
+          (λ one. absurd (record_is_no_text secret bytes c (record_of one.0 bytes one.1) accepted))
+          (written_in_put t ps bytes was);
+      anchored = ⊎_elim (λ none. inl none) (λ named. inr (subst (λ (ws : List WrittenPiece). NamesText ws secret anchor) (sym grown.written) (names_stays t.written grown.more_written secret anchor named))) kept.anchored;
+    }
+  where
+    record_of : (place : ℕ) (bytes : List ℕ) → IsOneOf ps place bytes → IsRecord secret bytes
+    record_of place bytes one = one_of_all (λ at b. IsRecord secret b) ps place bytes (all_listed (λ (p : Placed). IsRecord secret p.bytes) ps records) one
