@@ -22,7 +22,7 @@ use Rattle.tdb_overlay.specs.Log.{IsLog, IsStep}
 use Rattle.tdb_overlay.specs.NextText.{FindsAll, GoesOnWith, IsLaidText, IsNextText, NamesMark}
 use Rattle.tdb_overlay.specs.SealedOnly.{IsRecord}
 use Rattle.tdb_overlay.specs.StoreState.{StoreState, first_state}
-use Rattle.tdb_overlay.specs.WellFormedLog.{EachText, IsAccepted, IsWellFormedLog, NamesText, TextLog}
+use Rattle.tdb_overlay.specs.WellFormedLog.{EachText, IsAccepted, IsWellFormedLog, IsWellFormedTrace, NamesText, TextLog}
 use Rattle.tdb_overlay.proofs.Listed.{all_listed, one_of_all, one_of_front}
 use Rattle.tdb_overlay.proofs.LogLaws.{log_stays}
 use Rattle.tdb_overlay.proofs.PutLogs.{follows_is, found_in_put, grows_all, head_log, in_later_trace, log_grown, each_was_written, was_written_more}
@@ -101,7 +101,7 @@ anchor_log written secret anchor kept = ⊎_elim (starts anchor) named kept.anch
 
     named : NamesText written secret anchor → (suite : Suite) × (history : History) × (last : StoreState) × IsLog written (record { secret = secret; suite = suite }) anchor history last
     named n =
-        let of_text = kept.texts n.text n.commit n.was_written n.accepted in (
+        let of_text = kept.trace.texts n.text n.commit n.was_written n.accepted in (
           n.commit.suite,
           of_text.history,
           of_text.last,
@@ -132,6 +132,21 @@ names_stays written more secret anchor n = record {
 module _ (store : Store) (t u : Trace) (anchor : Anchor) (text : List ℕ) (c : Commit) (ps : List Placed) (laid : IsLaidText store.secret text c ps) where
   abbrev pub slot : Placed
   slot = record { place = slot_place c.count; bytes = text }
+
+  -- the next anchor names the text, once all was written
+  pub text_named : u ≡ with_all_written t (ps ++ slot ∷ []) → NamesText u.written store.secret (c.count, sha256 text)
+  text_named wrote = record {
+    text = text;
+    commit = c;
+    was_written = subst (λ (v : Trace). WasWritten v.written text) (sym wrote) (each_was_written t (ps ++ slot ∷ []) slot.place text (last_one ps));
+    accepted = laid.accepted;
+    count = refl;
+    mark = refl;
+  }
+    where
+      last_one : (qs : List Placed) → IsOneOf (qs ++ slot ∷ []) slot.place text
+      last_one [] = inl (refl, refl)
+      last_one (q ∷ qs) = inr (last_one qs)
 
   -- where all of it was written, the text comes next
   module _ (wrote : u ≡ with_all_written t (ps ++ slot ∷ [])) (unforged : IsUnforged u (commit_of (commit_key_of store.secret))) where
@@ -207,7 +222,7 @@ module _ (store : Store) (t u : Trace) (anchor : Anchor) (text : List ℕ) (c : 
     pub each_text : EachText u.written store.secret (λ last. Unit {0})
     each_text bytes d was accepted =
         ⊎_elim
-        (λ earlier. subst (λ (ws : List WrittenPiece). TextLog ws store.secret bytes d (λ last. Unit {0})) (sym grown.written) (text_log_stays t.written grown.more_written store.secret bytes d (kept.texts bytes d earlier accepted)))
+        (λ earlier. subst (λ (ws : List WrittenPiece). TextLog ws store.secret bytes d (λ last. Unit {0})) (sym grown.written) (text_log_stays t.written grown.more_written store.secret bytes d (kept.trace.texts bytes d earlier accepted)))
         (λ rest_of. ⊎_elim
         (λ is. absurd (record_is_no_text store.secret bytes d is accepted))
         (λ is. subst (λ (b : List ℕ). TextLog u.written store.secret b d (λ last. Unit {0})) is.0 (new_text d (subst (λ (b : List ℕ). IsAccepted store.secret b d) (sym is.0) accepted) is.1)) rest_of)
@@ -215,42 +230,33 @@ module _ (store : Store) (t u : Trace) (anchor : Anchor) (text : List ℕ) (c : 
 
     pub each_piece : (bytes : List ℕ) → WasWritten u.written bytes → IsRecord store.secret bytes ⊎ ((d : Commit) × IsAccepted store.secret bytes d)
     each_piece bytes was =
-        ⊎_elim (λ earlier. kept.pieces bytes earlier)
+        ⊎_elim (λ earlier. kept.trace.pieces bytes earlier)
         (λ rest_of. ⊎_elim (λ is. inl is) (λ is. inr (c, subst (λ (b : List ℕ). IsAccepted store.secret b c) is.0 laid.accepted)) rest_of) (parts bytes was)
 
-    -- The trace stays well formed for an anchor of which it was,
+    -- The trace stays well formed,
+    pub formed : IsWellFormedTrace u.written store.secret
+    formed = record { pieces = each_piece; texts = each_text }
+
+    -- for an anchor of which it was,
     pub kept_still : (a : Anchor) → IsWellFormedLog t.written store.secret a → IsWellFormedLog u.written store.secret a
-    kept_still a was = record { pieces = each_piece; texts = each_text; anchored = stays a was.anchored }
+    kept_still a was = record { trace = formed; anchored = stays a was.anchored }
 
     -- and is well formed for the text, once all was written.
     pub kept_next : rest ≡ [] → IsWellFormedLog u.written store.secret (c.count, sha256 text)
-    kept_next complete = record {
-      pieces = each_piece;
-      texts = each_text;
-      anchored = inr (record {
-        text = text;
-        commit = c;
-        was_written = subst (λ (v : Trace). WasWritten v.written text) (sym (whole complete)) (each_was_written t (ps ++ slot ∷ []) slot.place text (last_one ps));
-        accepted = laid.accepted;
-        count = refl;
-        mark = refl;
-      });
-    }
-      where
-        last_one : (qs : List Placed) → IsOneOf (qs ++ slot ∷ []) slot.place text
-        last_one [] = inl (refl, refl)
-        last_one (q ∷ qs) = inr (last_one qs)
+    kept_next complete = record { trace = formed; anchored = inr (text_named (whole complete)) }
 
 -- Sealed records alone keep it well formed.
 pub records_keep : (secret : List ℕ) (t : Trace) (ps : List Placed) (anchor : Anchor) → All (λ (p : Placed). IsRecord secret p.bytes) ps → IsWellFormedLog t.written secret anchor → IsWellFormedLog (with_all_written t ps).written secret anchor
 records_keep secret t ps anchor records kept =
     let grown : Extends t (with_all_written t ps) = grows_all t ps in
     record {
-      pieces = λ bytes was. ⊎_elim (λ earlier. kept.pieces bytes earlier) (λ one. inl (record_of one.0 bytes one.1)) (written_in_put t ps bytes was);
-      texts = λ bytes c was accepted. ⊎_elim
-          (λ earlier. subst (λ (ws : List WrittenPiece). TextLog ws secret bytes c (λ last. Unit {0})) (sym grown.written) (text_log_stays t.written grown.more_written secret bytes c (kept.texts bytes c earlier accepted)))
-          (λ one. absurd (record_is_no_text secret bytes c (record_of one.0 bytes one.1) accepted))
-          (written_in_put t ps bytes was);
+      trace = record {
+        pieces = λ bytes was. ⊎_elim (λ earlier. kept.trace.pieces bytes earlier) (λ one. inl (record_of one.0 bytes one.1)) (written_in_put t ps bytes was);
+        texts = λ bytes c was accepted. ⊎_elim
+            (λ earlier. subst (λ (ws : List WrittenPiece). TextLog ws secret bytes c (λ last. Unit {0})) (sym grown.written) (text_log_stays t.written grown.more_written secret bytes c (kept.trace.texts bytes c earlier accepted)))
+            (λ one. absurd (record_is_no_text secret bytes c (record_of one.0 bytes one.1) accepted))
+            (written_in_put t ps bytes was);
+      };
       anchored = ⊎_elim (λ none. inl none) (λ named. inr (subst (λ (ws : List WrittenPiece). NamesText ws secret anchor) (sym grown.written) (names_stays t.written grown.more_written secret anchor named))) kept.anchored;
     }
   where

@@ -8,11 +8,14 @@ pub mod Lengths
 pub mod Listed
 pub mod LogLaws
 pub mod Needing
+pub mod NextLaws
 pub mod OneLog
 pub mod PlacedLogs
 pub mod Placings
 pub mod PutLogs
+pub mod RanLaws
 pub mod ReadingLaws
 pub mod RequiredLaws
+pub mod SealedPuts
 pub mod Steps
 pub mod Unmistaken

@@ -75,7 +75,7 @@ module _ (written : List WrittenPiece) (store : Store) (anchor : Anchor) (histor
       rests_where (inr (inr (inr reached))) = inr (reached_placed told (trace_sized written) store text last at_text piece reached since)
 
     -- What it rests on where more was written, it rested on.
-    rests_before : (g : Finds) → Finer told g → FindsOne g → (piece : Piece) → RestsOn g store.secret text piece → RestsOn told store.secret text piece
+    pub rests_before : (g : Finds) → Finer told g → FindsOne g → (piece : Piece) → RestsOn g store.secret text piece → RestsOn told store.secret text piece
     rests_before g finer one piece (inl same) = inl same
     rests_before g finer one piece (inr (inl same)) = inr (inl same)
     rests_before g finer one piece (inr (inr (inl named))) =
