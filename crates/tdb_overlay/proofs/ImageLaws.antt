@@ -1,25 +1,29 @@
 -- What a log needs stands in an image: as more is written elsewhere, and in each image with the same bytes there.
-use Rattle.std.proofs.Common.{◌≡◌, ◌⊎◌, inl, inr, ⊎_elim, ℕ, zero, suc, ◌+◌, ◌<◌, ◌≤◌, List, [], ◌∷◌, ◌++◌, length, get_or, refl, sym, ◌∙◌, ap, subst, arith}
+use Rattle.std.proofs.Common.{◌≡◌, ◌⊎◌, inl, inr, ⊎_elim, ℕ, zero, suc, ◌+◌, ◌<◌, ◌≤◌, List, [], ◌∷◌, ◌++◌, length, Ok, get_or, refl, sym, ◌∙◌, ap, subst, arith}
 use Rattle.std.proofs.lemmas.Bool.{cases_lt}
 use Rattle.std.specs.Prelude.{All, slice_index}
 use Rattle.std.specs.List.{AllByRecursion}
 use Rattle.tdb_append.specs.Placed.{FitsOneSegment, Placed, SameExceptAt}
 use Rattle.tdb_append.specs.Put.{slot_place}
 use Rattle.tdb_base.specs.declared.piece.Piece.{Piece}
+use Rattle.tdb_base.specs.declared.piece.Place.{Place}
 use Rattle.tdb_base.specs.Trace.{WrittenPiece}
 use Rattle.tdb_model.specs.Apply.{History}
 use Rattle.tdb_platform.specs.Image.{Holds}
 use Rattle.tdb_platform.specs.Outside.{Anchor}
-use Rattle.tdb_seg.specs.SegmentSpace.{SegmentSpace, IsPlacedIn}
+use Rattle.tdb_seg.specs.SegmentSpace.{SegmentSpace, IsPlacedIn, IsSegmentSpace, fits, place_in}
+use Rattle.tdb_seg.proofs.Placing.{LiesInDevice}
+use Rattle.tdb_seg.proofs.PlacingLaws.{IsFreshPlace, IsLength, fresh-apart, place_in-is, placed-stays, with_bytes-valid}
 use Rattle.tdb_overlay.specs.Found.{Store}
 use Rattle.tdb_overlay.specs.Images.{AllStandIn, IsIntactIn, StandsIn}
 use Rattle.tdb_overlay.specs.LaidPieces.{IsFreshIn}
 use Rattle.tdb_overlay.specs.Log.{IsLog}
 use Rattle.tdb_overlay.specs.Required.{IsRequired}
-use Rattle.tdb_overlay.specs.RequiredPlaces.{HasSameBytes, IsClearOf, IsRecentText, IsWhereRequired}
+use Rattle.tdb_overlay.specs.RequiredPlaces.{AreClearOf, HasSameBytes, IsClearOf, IsRecentText, IsWhereRequired}
 use Rattle.tdb_overlay.specs.StoreState.{StoreState}
 use Rattle.tdb_overlay.proofs.Listed.{all_front, all_listed, all_more, all_weaker}
 use Rattle.tdb_overlay.proofs.LogLaws.{log_stays}
+use Rattle.tdb_overlay.proofs.Placings.{same_parts, then_fit-is}
 use Rattle.tdb_overlay.proofs.RequiredLaws.{required_before, required_is_placed}
 
 -- a laid piece has none of these bytes
@@ -124,3 +128,28 @@ pub intact_over : (written : List WrittenPiece) (store : Store) (anchor : Anchor
 intact_over written store anchor history last image after ps done rest slot log slotted long in_segments fresh in_order same stand piece required =
     stands_on piece done image after same
     (put_is_clear last piece ps done rest slot slotted long in_segments fresh in_order (required_is_placed written store anchor history last log piece required)) (stand piece required)
+
+-- Bytes that are placed are clear of it.
+pub places_are_clear : (piece : Piece) (space : SegmentSpace) (last : ℕ) → IsRecentText last piece ⊎ IsPlacedIn space piece.place.0 piece.length → IsSegmentSpace space → (lengths : List ℕ) → AllByRecursion IsLength lengths
+    → (keep : ℕ) (places : List Place) (after : SegmentSpace) → fits space lengths keep ≡ Ok (places, after) → AreClearOf piece lengths places
+unfolding fits
+places_are_clear piece space last where_is valid [] sizes keep places after is =
+    let none : [] ≡ places = (same_parts [] places space after is).0 in
+    subst (AreClearOf piece []) none tt
+places_are_clear piece space last where_is valid (n ∷ lengths) sizes keep places after is =
+    let parts = then_fit-is (λ (s : SegmentSpace). fits s lengths keep) (place_in space n keep) places after is in
+    let place : Place = parts.0.0 in
+    let one = place_in-is space valid n keep place parts.0.1 sizes.0.0 sizes.0.1 parts.1 in
+    let lies : LiesInDevice space place n = (one.fresh.k, one.fresh.within, one.fresh.lies) in
+    let next : IsSegmentSpace parts.0.1 = subst IsSegmentSpace (sym one.after) (with_bytes-valid space valid place n lies) in
+    let still : IsRecentText last piece ⊎ IsPlacedIn parts.0.1 piece.place.0 piece.length =
+    ⊎_elim (λ recent. inl recent) (λ old. inr (subst (λ (s : SegmentSpace). IsPlacedIn s piece.place.0 piece.length) (sym one.after) (placed-stays space place n piece.place.0 piece.length one.fresh old))) where_is in
+    let rest = places_are_clear piece parts.0.1 last still next lengths sizes.1 keep parts.2 after parts.3 in
+    subst (AreClearOf piece (n ∷ lengths)) (sym parts.4) (here place one.fresh where_is, rest)
+  where
+    here : (place : Place) → IsFreshPlace space place n → IsRecentText last piece ⊎ IsPlacedIn space piece.place.0 piece.length → IsClearOf piece place.0 n
+    here place fresh (inl recent) =
+        let size = recent.size in
+        let at = recent.place in
+        inr (omega (arith, fresh.lies.begins, at, size))
+    here place fresh (inr old) = ⊎_elim (λ before. inr before) (λ behind. inl behind) (fresh-apart space place n piece.place.0 piece.length fresh old)

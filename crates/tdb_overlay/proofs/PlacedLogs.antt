@@ -147,6 +147,12 @@ module _ (f : Finds) (sized : IsSized f) (store : Store) where
             ⊎_elim (λ same. rest.stays (omega (arith, since, step.next)) q m (same.1 q m old)) (λ at. absurd (omega (arith, at, step.next, rest.base, since))) step.stays;
       }
 
+  -- Behind a log of some texts stands a space of segments.
+  pub log_space : (before : StoreState) (chain : List Commit) (history : History) (last : StoreState) → AllByRecursion IsInFormat chain → HasSpace before → IsLogOf f store before chain history last → HasSpace last
+  log_space before [] history last formats valid is = subst HasSpace (sym is.1) valid
+  log_space before (c ∷ chain) history last formats valid is =
+      log_space is.1 chain is.2 last formats.1 (inr (step_placed before c is.0 is.1 formats.0 is.3.suite valid is.3.adds).valid) is.4
+
   -- A text of a log: the states before and behind it, and what is still placed if no checkpoint came since.
   pub record TextAt (c : Commit) (last : StoreState) : Type 0 where
     pub before : StoreState

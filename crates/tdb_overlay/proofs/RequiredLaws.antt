@@ -14,6 +14,7 @@ use Rattle.tdb_mark.specs.CommitText.{commit_key_of, commit_of}
 use Rattle.tdb_mark.proofs.ChainLemmas.{commit_chain-stays}
 use Rattle.tdb_model.specs.Apply.{History}
 use Rattle.tdb_platform.specs.Outside.{Anchor}
+use Rattle.tdb_seg.specs.SegmentSpace.{IsSegmentSpace}
 use Rattle.tdb_overlay.specs.Changes.{HasChanges, named_records}
 use Rattle.tdb_overlay.specs.CheckpointState.{IsReached}
 use Rattle.tdb_overlay.specs.Found.{Finds, FindsOne, Finer, Store, in_trace, store_of_text}
@@ -27,7 +28,7 @@ use Rattle.tdb_overlay.proofs.Lengths.{trace_sized}
 use Rattle.tdb_overlay.proofs.Listed.{all_at}
 use Rattle.tdb_overlay.proofs.LogLaws.{found_still, list_stays, trace_finds_one}
 use Rattle.tdb_overlay.proofs.Needing.{rests_still}
-use Rattle.tdb_overlay.proofs.PlacedLogs.{IsIn, TextAt, commit_pieces, is_none, one_list, reached_placed, text_at}
+use Rattle.tdb_overlay.proofs.PlacedLogs.{IsIn, TextAt, commit_pieces, is_none, log_space, one_list, reached_placed, text_at}
 
 some_of : (earlier : List Commit) (text : Commit) (later : List Commit) → 1 ≤ length (earlier ++ text ∷ later)
 some_of [] text later = omega arith
@@ -40,6 +41,11 @@ module _ (written : List WrittenPiece) (store : Store) (anchor : Anchor) (histor
 
   pub formats : AllByRecursion IsInFormat is.chain
   formats = chain_in_format written (commit_key_of store.secret) anchor.0 anchor.1 is.chain is.ends
+
+  pub last_space : 1 ≤ length is.chain → IsSegmentSpace last.space
+  last_space some =
+      ⊎_elim (λ none. absurd (omega (arith, none, (log_counts told store is.chain history last some formats is.tells).some))) (λ valid. valid)
+      (log_space told (trace_sized written) store first_state is.chain history last formats (inl refl) is.tells)
 
   module _ (earlier : List Commit) (text : Commit) (later : List Commit) (split : is.chain ≡ earlier ++ text ∷ later) where
     at_text : TextAt told (trace_sized written) store text last
@@ -69,7 +75,7 @@ module _ (written : List WrittenPiece) (store : Store) (anchor : Anchor) (histor
       rests_where (inr (inr (inr reached))) = inr (reached_placed told (trace_sized written) store text last at_text piece reached since)
 
     -- What it rests on where more was written, it rested on.
-    rests_before : (g : Finds) → Finer told g → FindsOne g → (piece : Piece) → RestsOn g store.secret text piece → RestsOn told store.secret text piece
+    pub rests_before : (g : Finds) → Finer told g → FindsOne g → (piece : Piece) → RestsOn g store.secret text piece → RestsOn told store.secret text piece
     rests_before g finer one piece (inl same) = inl same
     rests_before g finer one piece (inr (inl same)) = inr (inl same)
     rests_before g finer one piece (inr (inr (inl named))) =
@@ -96,6 +102,12 @@ module _ (written : List WrittenPiece) (store : Store) (anchor : Anchor) (histor
       let chain : r.chain ≡ is.chain = same_Some r.chain is.chain (sym r.ends ∙ is.ends) in
       let split : is.chain ≡ r.earlier ++ r.text ∷ r.later = sym chain ∙ r.in_chain in
       rests_where r.earlier r.text r.later split (omega (arith, (counts r.earlier r.text r.later split).base, ap base_of chain, r.since_base)) piece r.rests
+
+  -- The last state has segments, where the log needs something.
+  pub required_space : (piece : Piece) → IsRequired written store anchor piece → IsSegmentSpace last.space
+  required_space piece r =
+      let chain : is.chain ≡ r.earlier ++ r.text ∷ r.later = same_Some is.chain r.chain (sym is.ends ∙ r.ends) ∙ r.in_chain in
+      last_space (subst (λ (l : List Commit). 1 ≤ length l) (sym chain) (some_of r.earlier r.text r.later))
 
   -- What it needs where more was written, it needed.
   pub required_before : (more : List WrittenPiece) (piece : Piece) → IsRequired (written ++ more) store anchor piece → IsRequired written store anchor piece

@@ -13,6 +13,7 @@ pub mod Memory
 pub mod Needed
 pub mod NextText
 pub mod Placement
+pub mod Ran
 pub mod Reading
 pub mod Recovered
 pub mod Required

@@ -37,11 +37,19 @@ pub record NamesText (written : List WrittenPiece) (secret : List ℕ) (anchor :
   pub count : anchor.0 ≡ commit.count
   pub mark : anchor.1 ≡ sha256 text
 
-pub record IsWellFormedLog (written : List WrittenPiece) (secret : List ℕ) (anchor : Anchor) : Type 0 where
-  -- each piece that was written is a sealed record or a text
+-- Each piece that was written is a sealed record or a text, and each text ends a log.
+pub record IsWellFormedTrace (written : List WrittenPiece) (secret : List ℕ) : Type 0 where
   pub pieces : (bytes : List ℕ) → WasWritten written bytes → IsRecord secret bytes ⊎ ((c : Commit) × IsAccepted secret bytes c)
   pub texts : EachText written secret (λ last. Unit {0})
-  pub anchored : (anchor.0 ≡ 0) ⊎ NamesText written secret anchor
+
+-- the anchor counts nothing, or names a text
+abbrev pub IsAnchored : List WrittenPiece → List ℕ → Anchor → Type 0
+IsAnchored written secret anchor = (anchor.0 ≡ 0) ⊎ NamesText written secret anchor
+
+-- The trace is well formed, and the anchor is one of it.
+pub record IsWellFormedLog (written : List WrittenPiece) (secret : List ℕ) (anchor : Anchor) : Type 0 where
+  pub trace : IsWellFormedTrace written secret
+  pub anchored : IsAnchored written secret anchor
 
 -- The trace is well formed for the platform's anchor, and for each that a stop may leave now.
 pub record IsKeptLog {D : Type 0} (outside : D → Outside) (crash_states : D → CrashStates) (secret : List ℕ) (p : D) : Type 0 where
