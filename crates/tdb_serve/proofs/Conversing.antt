@@ -1,5 +1,6 @@
 -- How a conversation goes on.
-use Rattle.std.proofs.Common.{◌≡◌, ℕ, ◌+◌, ◌-◌, ◌<◌, ◌≤◌, IsTrue, List, [], ◌∷◌, ◌++◌, Option, None, length, arith, sym, refl, ◌∙◌, ap, subst, append_assoc, append-nil, length-append}
+use Rattle.std.proofs.Common.{◌≡◌, ℕ, ◌+◌, ◌-◌, ◌<◌, ◌≤◌, IsTrue, List, [], ◌∷◌, ◌++◌}
+use Rattle.std.proofs.Common.{Option, None, length, arith, sym, refl, ◌∙◌, ap, subst, append_assoc, append-nil, length-append}
 use Rattle.std.proofs.lemmas.Grind.{flat_map-append}
 use Rattle.std.proofs.lemmas.List.Elements.{All-push}
 use Rattle.tdb_stream.specs.SinkContent.{SinkContent}
@@ -30,7 +31,8 @@ no_conversation came = record {
 }
 
 -- what is left where the lines have ended
-abbrev pub ended_unanswered : (came gone : SourceContent) (old new : ScriptLines) → HasEnded came gone old new → LeavesUnanswered came gone old new
+abbrev pub ended_unanswered : (came gone : SourceContent) (old new : ScriptLines) → HasEnded came gone old new
+    → LeavesUnanswered came gone old new
 ended_unanswered came gone old new e = record {
   bytes = e.handed_on.bytes;
   unanswered = e.tail;
@@ -48,7 +50,8 @@ pub record Conversing (came now : SourceContent) (before after : SinkContent) (l
   pub put : IsTrue before.tells → after.held ≡ before.held ++ replies_text conversation.replies
 
 -- before the first line
-abbrev pub conversing_none : (came : SourceContent) (before : SinkContent) (lines : ScriptLines) → unread lines ≡ [] → lines.taken ≡ 0 → Conversing came came before before lines
+abbrev pub conversing_none : (came : SourceContent) (before : SinkContent) (lines : ScriptLines) → unread lines ≡ [] → lines.taken ≡ 0
+    → Conversing came came before before lines
 conversing_none came before lines none zero = record {
   conversation = no_conversation came;
   unread_is = sym none;
@@ -57,12 +60,15 @@ conversing_none came before lines none zero = record {
   put = λ told. sym (append-nil before.held);
 }
 
-module _ (came now later : SourceContent) (same : now.tells ≡ came.tells) (lines next : ScriptLines) (c : Conversation came now) (unread_is : c.unanswered ≡ unread lines) (counted : lines.taken ≡ length c.taken) where
+module _ (came now later : SourceContent) (same : now.tells ≡ came.tells) (lines next : ScriptLines) (c : Conversation came now)
+    (unread_is : c.unanswered ≡ unread lines) (counted : lines.taken ≡ length c.taken) where
   abbrev pub gave_more : (bytes : List ℕ) → Gave now later bytes → Gave came later (c.taken ++ bytes)
-  gave_more bytes gave told = c.gave told ∙ ap (λ (l : List ℕ). c.taken ++ l) (gave (subst IsTrue (sym same) told)) ∙ sym (append_assoc c.taken bytes later.rest)
+  gave_more bytes gave told = c.gave told ∙ ap (λ (l : List ℕ). c.taken ++ l) (gave (subst IsTrue (sym same) told))
+      ∙ sym (append_assoc c.taken bytes later.rest)
 
   abbrev pub split_more : (bytes : List ℕ) → c.taken ++ bytes ≡ lines_text c.lines ++ (unread lines ++ bytes)
-  split_more bytes = ap (λ (l : List ℕ). l ++ bytes) (c.split ∙ ap (λ (l : List ℕ). lines_text c.lines ++ l) unread_is) ∙ append_assoc (lines_text c.lines) (unread lines) bytes
+  split_more bytes = ap (λ (l : List ℕ). l ++ bytes) (c.split ∙ ap (λ (l : List ℕ). lines_text c.lines ++ l) unread_is)
+      ∙ append_assoc (lines_text c.lines) (unread lines) bytes
 
   -- more was taken, and no further line is answered
   abbrev pub left_unanswered : LeavesUnanswered now later lines next → Conversation came later
@@ -93,7 +99,8 @@ module _ (came now later : SourceContent) (same : now.tells ≡ came.tells) (lin
       next = cut;
       gave = gave_more n.handed_on.bytes n.handed_on.gave;
       limit = limit_more;
-      split = split_more n.handed_on.bytes ∙ ap (λ (l : List ℕ). lines_text c.lines ++ l) (n.handed_on.moved ∙ append_assoc line (10 ∷ []) (unread next));
+      split = split_more n.handed_on.bytes ∙ ap (λ (l : List ℕ). lines_text c.lines ++ l)
+          (n.handed_on.moved ∙ append_assoc line (10 ∷ []) (unread next));
       each = c.each;
       one_each = c.one_each;
     }
@@ -110,19 +117,26 @@ module _ (came now later : SourceContent) (same : now.tells ≡ came.tells) (lin
       limit = limit_more;
       split = split_more n.handed_on.bytes ∙ ap (λ (l : List ℕ). lines_text c.lines ++ l) n.handed_on.moved
           ∙ sym (append_assoc (lines_text c.lines) (line ++ 10 ∷ []) (unread next))
-          ∙ ap (λ (l : List ℕ). l ++ unread next) (ap (λ (l : List ℕ). lines_text c.lines ++ l) (sym (append-nil (line ++ 10 ∷ []))) ∙ sym (flat_map-append (λ (l : List ℕ). l ++ 10 ∷ []) c.lines (line ∷ [])));
+          ∙ ap (λ (l : List ℕ). l ++ unread next) (ap (λ (l : List ℕ). lines_text c.lines ++ l) (sym (append-nil (line ++ 10 ∷ [])))
+          ∙ sym (flat_map-append (λ (l : List ℕ). l ++ 10 ∷ []) c.lines (line ∷ [])));
       each = All-push HasNoLineFeed c.lines line c.each n.no_line_feed;
       one_each = omega (arith, c.one_each, length-append c.replies (reply ∷ []), length-append c.lines (line ∷ []));
     }
 
 -- the replies with one more
-pub replies_more : (replies : List Reply) (reply : Reply) → replies_text (replies ++ reply ∷ []) ≡ replies_text replies ++ reply_spelling reply
-replies_more replies reply = flat_map-append (λ (r : Reply). reply_spelling r) replies (reply ∷ []) ∙ ap (λ (l : List ℕ). replies_text replies ++ l) (append-nil (reply_spelling reply))
+pub replies_more : (replies : List Reply) (reply : Reply) → replies_text (replies ++ reply ∷ []) ≡ replies_text replies ++ reply_spelling
+    reply
+replies_more replies reply = flat_map-append (λ (r : Reply). reply_spelling r) replies (reply ∷ [])
+    ∙ ap (λ (l : List ℕ). replies_text replies ++ l) (append-nil (reply_spelling reply))
 
-module _ (came now later : SourceContent) (same : now.tells ≡ came.tells) (before after last : SinkContent) (still : after.tells ≡ before.tells) (lines next : ScriptLines) (s : Conversing came now before after lines)
-    (line : List ℕ) (n : IsNextLine now later lines next line) (reply : Reply) (put : IsTrue after.tells → last.held ≡ after.held ++ reply_spelling reply) where
+module _ (came now later : SourceContent) (same : now.tells ≡ came.tells) (before after last : SinkContent)
+    (still : after.tells ≡ before.tells) (lines next : ScriptLines) (s : Conversing came now before after lines)
+    (line : List ℕ) (n : IsNextLine now later lines next line) (reply : Reply)
+    (put : IsTrue after.tells → last.held ≡ after.held ++ reply_spelling reply) where
   pub held_more : IsTrue before.tells → last.held ≡ before.held ++ replies_text (s.conversation.replies ++ reply ∷ [])
-  held_more told = put (subst IsTrue (sym still) told) ∙ ap (λ (l : List ℕ). l ++ reply_spelling reply) (s.put told) ∙ append_assoc before.held (replies_text s.conversation.replies) (reply_spelling reply) ∙ ap (λ (l : List ℕ). before.held ++ l) (sym (replies_more s.conversation.replies reply))
+  held_more told = put (subst IsTrue (sym still) told) ∙ ap (λ (l : List ℕ). l ++ reply_spelling reply) (s.put told)
+      ∙ append_assoc before.held (replies_text s.conversation.replies) (reply_spelling reply)
+      ∙ ap (λ (l : List ℕ). before.held ++ l) (sym (replies_more s.conversation.replies reply))
 
   -- the line was answered, and the script goes on
   abbrev pub conversing_on : (reply ≡ Bye → ⊥) → Conversing came later before last next

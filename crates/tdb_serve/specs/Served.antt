@@ -25,7 +25,8 @@ pub record IsAtNext (unanswered : List ℕ) (P : List ℕ → Type 0) : Type 0 w
 
 -- the sink holds its old bytes and the replies, and at its fault a prefix of the one that couldn't be put whole
 abbrev pub HasHeld : {came gone : SourceContent} → Conversation came gone → List ℕ → List ℕ → ScriptEnd → Type 0
-HasHeld c held now SinkFault = (reply : Reply) × (c.next ≡ Some reply) × AddsPrefix (reply_spelling reply) (held ++ replies_text c.replies) now
+HasHeld c held now SinkFault = (reply : Reply) × (c.next ≡ Some reply)
+    × AddsPrefix (reply_spelling reply) (held ++ replies_text c.replies) now
 HasHeld c held now end = now ≡ held ++ replies_text c.replies
 
 module _ {A : Type 0} (gives : A → List ℕ → Reply → A → Type 0) (fails : A → List ℕ → Stop → A → Type 0) where

@@ -21,8 +21,10 @@ fn answer_taken<A: Answers>(
     next: Next,
 ) -> Result<Reply, Stop>
     requires { A.ready answers.old }
-    ensures answered { (line : List ℕ) → IsTakenAs next lines.now line → IfOk result (λ reply. A.answered answers.old line reply answers.new) }
-    ensures unanswered { (line : List ℕ) → IsTakenAs next lines.now line → IfErr result (λ stop. A.unanswered answers.old line stop answers.new) }
+    ensures answered { (line : List ℕ) → IsTakenAs next lines.now line
+        → IfOk result (λ reply. A.answered answers.old line reply answers.new) }
+    ensures unanswered { (line : List ℕ) → IsTakenAs next lines.now line
+        → IfErr result (λ stop. A.unanswered answers.old line stop answers.new) }
     ensures ready { OnOk result (A.ready answers.new) }
 {
     match next {
@@ -33,7 +35,8 @@ fn answer_taken<A: Answers>(
 
 // Puts a reply, whole and at once.
 fn put_reply<K: Sink>(alloc: Global, sink: &mut K, reply: &Reply) -> Result<(), NotPut>
-    ensures ok { IsTrue (K.content sink.old).tells → OnOk result ((K.content sink.new).held ≡ (K.content sink.old).held ++ reply_spelling reply.now) }
+    ensures ok { IsTrue (K.content sink.old).tells → OnOk result
+        ((K.content sink.new).held ≡ (K.content sink.old).held ++ reply_spelling reply.now) }
     ensures quiet { OnOk result ((K.content sink.new).faults ≡ (K.content sink.old).faults) }
     ensures stopped { IfErr result (λ why. IsPutFor (reply_spelling reply.now) (K.content sink.old) (K.content sink.new) why) }
     ensures tells { (K.content sink.new).tells ≡ (K.content sink.old).tells }
@@ -57,9 +60,11 @@ pub(crate) fn answer_one<S: Source, K: Sink, A: Answers>(
     lines: &mut ScriptLines,
 ) -> Result<Reply, Halt>
     requires { A.ready answers.old }
-    ensures replied { IfOk result (λ reply. HasReplied A.answered (S.content source.old) (S.content source.new) (K.content sink.old) (K.content sink.new)
+    ensures replied { IfOk result (λ reply. HasReplied A.answered (S.content source.old) (S.content source.new) (K.content sink.old)
+        (K.content sink.new)
         (record { lines = lines.old; answers = answers.old }) (record { lines = lines.new; answers = answers.new }) reply) }
-    ensures stopped { IfErr result (λ halt. Interrupted A.answered A.unanswered (S.content source.old) (S.content source.new) (K.content sink.old) (K.content sink.new)
+    ensures stopped { IfErr result (λ halt. Interrupted A.answered A.unanswered (S.content source.old) (S.content source.new)
+        (K.content sink.old) (K.content sink.new)
         (record { lines = lines.old; answers = answers.old }) (record { lines = lines.new; answers = answers.new }) halt) }
     ensures ready { OnOk result (A.ready answers.new) }
     ensures keeps { Keeps (S.content source.old) (S.content source.new) (K.content sink.old) (K.content sink.new) }

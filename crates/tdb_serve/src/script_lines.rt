@@ -1,7 +1,8 @@
 // The lines of a script, as a source gives them.
 ghost use Rattle.tdb_script.specs.declared.line.TheConstants.{MAX_LINE_LENGTH};
 ghost use Rattle.tdb_serve.specs.declared.script_lines.TheConstants.{MAX_SCRIPT_LENGTH, MAX_TAKE};
-ghost use Rattle.std.specs.Prelude.{◌≡◌, ◌≢◌, ◌≤◌, ◌<◌, ◌+◌, ◌-◌, ◌++◌, ◌⊎◌, ℕ, List, [], ◌∷◌, length, take, drop, vec_len, vec_capacity, IsTrue, IfOk, IfErr, OnOk, OnErr, IfSome, IfNone, false};
+ghost use Rattle.std.specs.Prelude.{◌≡◌, ◌≢◌, ◌≤◌, ◌<◌, ◌+◌, ◌-◌, ◌++◌, ◌⊎◌, ℕ, List, [], ◌∷◌};
+ghost use Rattle.std.specs.Prelude.{length, take, drop, vec_len, vec_capacity, IsTrue, IfOk, IfErr, OnOk, OnErr, IfSome, IfNone, false};
 
 use crate::script_end::NoLine;
 use crate::taking::take_into;
@@ -72,7 +73,8 @@ impl ScriptLines {
     /// Hands on the next line, of which `line` then gives the bytes, or says why there is none.
     pub fn next<S: Source>(&mut self, source: &mut S) -> Result<Next, NoLine>
         ensures taken { IfOk result (λ next. HasTaken (S.content source.old) (S.content source.new) self.old self.new next) }
-        ensures stopped { IfErr result (λ why. (left : LeavesUnanswered (S.content source.old) (S.content source.new) self.old self.new) × StopsFor left why) }
+        ensures stopped { IfErr result (λ why. (left : LeavesUnanswered (S.content source.old) (S.content source.new) self.old self.new)
+            × StopsFor left why) }
         ensures tells { (S.content source.new).tells ≡ (S.content source.old).tells }
         ensures no_fewer { (S.content source.old).faults ≤ (S.content source.new).faults }
     {
@@ -96,7 +98,9 @@ impl ScriptLines {
 
     // How many unread bytes stand before the first line feed.
     fn bytes_to_line_feed(&self) -> Option<usize>
-        ensures found { IfSome result (λ n. (n < length (unread self.now)) × (unread self.now ≡ take n (unread self.now) ++ 10 ∷ drop (n + 1) (unread self.now)) × HasNoLineFeed (take n (unread self.now))) }
+        ensures found { IfSome result (λ n. (n < length (unread self.now))
+            × (unread self.now ≡ take n (unread self.now) ++ 10 ∷ drop (n + 1) (unread self.now))
+            × HasNoLineFeed (take n (unread self.now))) }
         ensures none { IfNone result (HasNoLineFeed (unread self.now)) }
     {
         self.chunk[self.start..self.end]
@@ -138,8 +142,10 @@ impl ScriptLines {
         ensures gave { IfOk result (λ more. Gave (S.content source.old) (S.content source.new) (unread self.new)) }
         ensures counted { IfOk result (λ more. self.new.taken ≡ self.old.taken + length (unread self.new)) }
         ensures more { IfOk result (λ more. IsTrue more → 0 < length (unread self.new)) }
-        ensures end { IfOk result (λ more. more ≡ false → (unread self.new ≡ []) × ((self.new.taken ≡ MAX_SCRIPT_LENGTH) ⊎ (IsTrue (S.content source.old).tells → (S.content source.new).rest ≡ []))) }
-        ensures failed { OnErr result ((unread self.new ≡ []) × (self.new.taken ≡ self.old.taken) × Gave (S.content source.old) (S.content source.new) [] × Rose (S.content source.old).faults (S.content source.new).faults) }
+        ensures end { IfOk result (λ more. more ≡ false → (unread self.new ≡ [])
+            × ((self.new.taken ≡ MAX_SCRIPT_LENGTH) ⊎ (IsTrue (S.content source.old).tells → (S.content source.new).rest ≡ []))) }
+        ensures failed { OnErr result ((unread self.new ≡ []) × (self.new.taken ≡ self.old.taken)
+            × Gave (S.content source.old) (S.content source.new) [] × Rose (S.content source.old).faults (S.content source.new).faults) }
         ensures line { self.new.line.items ≡ self.old.line.items }
         ensures quiet { OnOk result ((S.content source.new).faults ≡ (S.content source.old).faults) }
         ensures tells { (S.content source.new).tells ≡ (S.content source.old).tells }

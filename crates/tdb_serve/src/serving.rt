@@ -1,6 +1,6 @@
 // The loop over the lines of a script.
 ghost use Rattle.std.specs.Prelude.{◌≡◌, ◌↔◌, IsTrue, []};
-ghost use Rattle.tdb_serve.specs.Faults.{Keeps, TellsFaults};
+ghost use Rattle.tdb_serve.specs.Faults.{Keeps, TellsStreamFaults};
 ghost use Rattle.tdb_serve.specs.Served.{Served};
 ghost use Rattle.tdb_serve.specs.Unread.{unread};
 
@@ -30,8 +30,9 @@ fn serve_lines<S: Source, K: Sink, A: Answers>(
     requires ready { A.ready answers.old }
     requires none { unread lines.old ≡ [] }
     requires zero { lines.old.taken ≡ 0 }
-    ensures served { Served A.answered A.unanswered (S.content source.old) (S.content source.new) (K.content sink.old) (K.content sink.new) answers.old answers.new result }
-    ensures faults { TellsFaults (S.content source.old) (S.content source.new) (K.content sink.old) (K.content sink.new) result }
+    ensures served { Served A.answered A.unanswered (S.content source.old) (S.content source.new) (K.content sink.old)
+        (K.content sink.new) answers.old answers.new result }
+    ensures faults { TellsStreamFaults (S.content source.old) (S.content source.new) (K.content sink.old) (K.content sink.new) result }
     ensures keeps { Keeps (S.content source.old) (S.content source.new) (K.content sink.old) (K.content sink.new) }
 {
     'answering: loop {
@@ -56,8 +57,9 @@ pub fn serve<S: Source, K: Sink, A: Answers>(
     answers: &mut A,
 ) -> ScriptEnd
     requires { A.ready answers.old }
-    ensures served { Served A.answered A.unanswered (S.content source.old) (S.content source.new) (K.content sink.old) (K.content sink.new) answers.old answers.new result }
-    ensures faults { TellsFaults (S.content source.old) (S.content source.new) (K.content sink.old) (K.content sink.new) result }
+    ensures served { Served A.answered A.unanswered (S.content source.old) (S.content source.new) (K.content sink.old)
+        (K.content sink.new) answers.old answers.new result }
+    ensures faults { TellsStreamFaults (S.content source.old) (S.content source.new) (K.content sink.old) (K.content sink.new) result }
     ensures keeps { Keeps (S.content source.old) (S.content source.new) (K.content sink.old) (K.content sink.new) }
 {
     let Ok(mut lines) = ScriptLines::new(alloc) else {

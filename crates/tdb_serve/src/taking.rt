@@ -17,7 +17,8 @@ pub(crate) fn take_into<S: Source>(
     ensures gave { IfOk result (λ count. Gave (S.content source.old) (S.content source.new) (take count chunk.new)) }
     ensures end { IfOk result (λ count. count ≡ 0 → IsTrue (S.content source.old).tells → (S.content source.new).rest ≡ []) }
     ensures quiet { OnOk result ((S.content source.new).faults ≡ (S.content source.old).faults) }
-    ensures failed { OnErr result (Gave (S.content source.old) (S.content source.new) [] × Rose (S.content source.old).faults (S.content source.new).faults) }
+    ensures failed { OnErr result (Gave (S.content source.old) (S.content source.new) []
+        × Rose (S.content source.old).faults (S.content source.new).faults) }
     ensures tells { (S.content source.new).tells ≡ (S.content source.old).tells }
     ensures no_fewer { (S.content source.old).faults ≤ (S.content source.new).faults }
 {

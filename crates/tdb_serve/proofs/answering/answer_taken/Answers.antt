@@ -4,7 +4,8 @@ use Rattle.tdb_serve.proofs.TakenLines.{taken_line, taken_too_long}
 use Rattle.tdb_serve.proofs.answering.answer_taken.Goals as goal
 
 pub returns-in-TooLong-clause-answered : goal.returns-in-TooLong-clause-answered
-returns-in-TooLong-clause-answered g c line taken = c.pass_over.ensures.answered line (taken_too_long c.args.next c.args.lines.now line c.in-TooLong.is taken)
+returns-in-TooLong-clause-answered g c line taken = c.pass_over.ensures.answered line
+    (taken_too_long c.args.next c.args.lines.now line c.in-TooLong.is taken)
 
 pub returns-in_default-clause-answered : goal.returns-in_default-clause-answered
 returns-in_default-clause-answered g c line taken =
