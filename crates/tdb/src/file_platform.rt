@@ -1,5 +1,5 @@
 // A device file and an anchor file as a platform. This is the trusted edge: no clause says what a real file does.
-ghost use Rattle.std.specs.Prelude.{◌≡◌, ◌≤◌, ◌++◌, ◌↔◌, [], false, length, take, drop, IfOk, IsErr};
+ghost use Rattle.std.specs.Prelude.{◌≡◌, ◌≤◌, ◌++◌, ◌↔◌, [], false, length, take, drop, IfOk, OnOk, IsErr};
 ghost use Rattle.std.specs.Int.{w64, to_be_bytes, from_be_bytes};
 ghost use Rattle.std.proofs.lemmas.Bool.{false≢true};
 ghost use Rattle.tdb_base.specs.Rose.{Rose};
@@ -45,6 +45,7 @@ impl FilePlatform {
         ensures ticks { Rose self.old.clock self.new.clock }
         ensures later { self.old.clock ≤ self.new.clock }
         ensures no_fewer { self.old.faults ≤ self.new.faults }
+        ensures quiet { OnOk result (self.new.faults ≡ self.old.faults) }
         ensures cause { IsErr result → Rose self.old.faults self.new.faults }
     {
         self.clock = self.clock.saturating_add(1);
