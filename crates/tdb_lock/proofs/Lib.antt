@@ -1,0 +1,3 @@
+pub mod ClaimOrder
+pub mod Granting
+pub mod Conflicts
