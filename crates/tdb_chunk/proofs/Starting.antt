@@ -152,7 +152,7 @@ first_steps o secret head segments c ps space s zero_count start before from is 
       after_is = after;
       placed = λ piece which. ⊎_elim (λ same. subst (IsIn (formatted_state store segments).space) (sym same) placed) (λ reached. absurd reached) which;
     } in
-    let step : IsStep (in_pieces ps) store from c [] (formatted_state store segments) = record { suite = ap (λ (k : Commit). k.suite) s.commit; adds = inl (checkpoint, refl) } in
+    let step : IsStep (in_pieces ps) store from c [] (formatted_state store segments) = record { used = tt; suite = ap (λ (k : Commit). k.suite) s.commit; adds = inl (checkpoint, refl) } in
     ([], formatted_state store segments, (refl, none, refl), step)
 
 -- nothing was placed before the first text
