@@ -15,7 +15,7 @@ use Rattle.tdb_mark.proofs.TextLemmas.{commit_of_is}
 use Rattle.tdb_model.specs.Apply.{History}
 use Rattle.tdb_platform.specs.Outside.{Anchor}
 use Rattle.tdb_seal.specs.declared.record.Name.{Name}
-use Rattle.tdb_seal.specs.SealedRecord.{IsInUse, IsSealedRecord, record_head, sealed_under}
+use Rattle.tdb_seal.specs.SealedRecord.{IsSealedRecord, ciphered_record, record_head, sealed_under}
 use Rattle.tdb_overlay.specs.Found.{Store, in_trace, store_of_text}
 use Rattle.tdb_overlay.specs.LaidPieces.{IsOneOf}
 use Rattle.tdb_overlay.specs.Log.{IsLog, IsStep}
@@ -28,11 +28,11 @@ use Rattle.tdb_overlay.proofs.LogLaws.{log_stays}
 use Rattle.tdb_overlay.proofs.PutLogs.{follows_is, found_in_put, grows_all, head_log, in_later_trace, log_grown, each_was_written, was_written_more}
 
 -- the first eight bytes of a record, and those of a text
-record_magic : (suite : Suite) → IsInUse suite → (key : List ℕ) (name : Name) (plain : List ℕ) → take 8 (sealed_under suite key name plain) ≡ codes "TDBREC01"
-unfolding record_head
-record_magic Plain used key name plain = refl
-record_magic Aes128 used key name plain = absurd used
-record_magic Aes256 used key name plain = absurd used
+record_magic : (suite : Suite) (key : List ℕ) (name : Name) (plain : List ℕ) → take 8 (sealed_under suite key name plain) ≡ codes "TDBREC01"
+unfolding record_head ciphered_record
+record_magic Plain key name plain = refl
+record_magic Aes128 key name plain = refl
+record_magic Aes256 key name plain = refl
 
 text_magic : (key : List ℕ) (c : Commit) → take 8 (commit_text key c) ≡ codes "TDBCMT01"
 unfolding commit_fields
@@ -42,7 +42,7 @@ text_magic key c = refl
 pub record_is_no_text : (secret bytes : List ℕ) (c : Commit) → IsRecord secret bytes → IsAccepted secret bytes c → ⊥
 record_is_no_text secret bytes c is accepted =
     let spelled : bytes ≡ commit_text (commit_key_of secret) c = (commit_of_is (commit_key_of secret) bytes c accepted).spelled in
-    let of_record : take 8 bytes ≡ codes "TDBREC01" = ap (take 8) is.sealed.spelled ∙ record_magic is.name.suite is.sealed.suite is.key is.name is.plain in
+    let of_record : take 8 bytes ≡ codes "TDBREC01" = ap (take 8) is.sealed.spelled ∙ record_magic is.name.suite is.key is.name is.plain in
     let of_text : take 8 bytes ≡ codes "TDBCMT01" = ap (take 8) spelled ∙ text_magic (commit_key_of secret) c in
     let third : 82 ≡ 67 = ap (λ (l : List ℕ). get_or l 3 0) (sym of_record ∙ of_text) in
     absurd (omega (arith, third))
