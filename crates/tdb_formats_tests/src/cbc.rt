@@ -1,8 +1,8 @@
 // Vectors of the standard, and the answers that no clause can hold.
 
-use super::{CbcError, seal, unseal};
 use std::test::Fail;
 use tdb_aes::Schedule;
+use tdb_cbc::{CbcError, seal, unseal};
 
 // The plain text of SP 800-38A appendix F.2.
 static PLAIN: [u8; 64] = [

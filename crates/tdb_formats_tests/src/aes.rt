@@ -1,6 +1,6 @@
 // Vectors of the standard, which no clause can hold.
 
-use super::Schedule;
+use tdb_aes::Schedule;
 
 // FIPS 197 appendix B and appendix C.1.
 #[test]
