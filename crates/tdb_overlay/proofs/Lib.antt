@@ -13,6 +13,7 @@ pub mod OneLog
 pub mod PlacedLogs
 pub mod Placings
 pub mod PutLogs
+pub mod PutRan
 pub mod RanLaws
 pub mod ReadingLaws
 pub mod RequiredLaws
