@@ -9,6 +9,7 @@ pub mod Listed
 pub mod LogLaws
 pub mod Needing
 pub mod NextLaws
+pub mod NextTexts
 pub mod OneLog
 pub mod PlacedLogs
 pub mod Placings
