@@ -1,7 +1,7 @@
 -- What a log needs stands in an image: as more is written elsewhere, and in each image with the same bytes there.
-use Rattle.std.proofs.Common.{◌≡◌, ◌⊎◌, inl, inr, ⊎_elim, ℕ, zero, suc, ◌+◌, ◌<◌, ◌≤◌, List, [], ◌∷◌, ◌++◌, length, Ok, get_or, refl, sym, ◌∙◌, ap, subst, arith}
+use Rattle.std.proofs.Common.{◌≡◌, ◌⊎◌, inl, inr, ⊎_elim, ℕ, zero, suc, ◌+◌, ◌<◌, ◌≤◌, List, [], ◌∷◌, ◌++◌, length, Ok, sym, ◌∙◌, subst, arith}
 use Rattle.std.proofs.lemmas.Bool.{cases_lt}
-use Rattle.std.specs.Prelude.{All, slice_index}
+use Rattle.std.specs.Prelude.{All}
 use Rattle.std.specs.List.{AllByRecursion}
 use Rattle.tdb_append.specs.Placed.{FitsOneSegment, Placed, SameExceptAt}
 use Rattle.tdb_append.specs.Put.{slot_place}
@@ -9,7 +9,6 @@ use Rattle.tdb_base.specs.declared.piece.Piece.{Piece}
 use Rattle.tdb_base.specs.declared.piece.Place.{Place}
 use Rattle.tdb_base.specs.Trace.{WrittenPiece}
 use Rattle.tdb_model.specs.Apply.{History}
-use Rattle.tdb_platform.specs.Image.{Holds}
 use Rattle.tdb_platform.specs.Outside.{Anchor}
 use Rattle.tdb_seg.specs.SegmentSpace.{SegmentSpace, IsPlacedIn, IsSegmentSpace, fits, place_in}
 use Rattle.tdb_seg.proofs.Placing.{LiesInDevice}

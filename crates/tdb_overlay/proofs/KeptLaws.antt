@@ -1,7 +1,6 @@
 -- A log is kept well formed as sealed records and then its next text are written.
-use Rattle.std.proofs.Common.{◌≡◌, ◌⊎◌, inl, inr, ⊎_elim, ℕ, zero, suc, ◌+◌, ◌≤◌, List, [], ◌∷◌, ◌++◌, length, take, get_or, codes, Some, replicate, refl, sym, ◌∙◌, ap, subst, append-nil, arith}
+use Rattle.std.proofs.Common.{◌≡◌, ◌⊎◌, inl, inr, ⊎_elim, ℕ, ◌+◌, List, [], ◌∷◌, ◌++◌, take, get_or, codes, Some, replicate, refl, sym, ◌∙◌, ap, subst, append-nil, arith}
 use Rattle.std.specs.Prelude.{All}
-use Rattle.std.specs.List.{AllByRecursion}
 use Rattle.sha2.specs.Sha256.{sha256}
 use Rattle.tdb_append.specs.Placed.{Placed, with_all_written}
 use Rattle.tdb_append.specs.Put.{slot_place}
@@ -9,16 +8,16 @@ use Rattle.tdb_base.specs.declared.suite.Suite.{Suite}
 use Rattle.tdb_base.specs.declared.suite.Suite.TheVariants.{Plain, Aes128, Aes256}
 use Rattle.tdb_base.specs.Trace.{Trace, WrittenPiece, Extends, calls_in, with_written}
 use Rattle.tdb_mark.specs.declared.commit.Commit.{Commit}
-use Rattle.tdb_mark.specs.CommitText.{IsCommitText, commit_fields, commit_key_of, commit_of, commit_text}
+use Rattle.tdb_mark.specs.CommitText.{commit_fields, commit_key_of, commit_of, commit_text}
 use Rattle.tdb_mark.specs.Unforged.{IsUnforged, WasWritten}
 use Rattle.tdb_mark.proofs.TextLemmas.{commit_of_is}
 use Rattle.tdb_model.specs.Apply.{History}
 use Rattle.tdb_platform.specs.Outside.{Anchor}
 use Rattle.tdb_seal.specs.declared.record.Name.{Name}
-use Rattle.tdb_seal.specs.SealedRecord.{IsInUse, IsSealedRecord, record_head, sealed_under}
-use Rattle.tdb_overlay.specs.Found.{Store, in_trace, store_of_text}
+use Rattle.tdb_seal.specs.SealedRecord.{IsInUse, record_head, sealed_under}
+use Rattle.tdb_overlay.specs.Found.{Store, store_of_text}
 use Rattle.tdb_overlay.specs.LaidPieces.{IsOneOf}
-use Rattle.tdb_overlay.specs.Log.{IsLog, IsStep}
+use Rattle.tdb_overlay.specs.Log.{IsLog}
 use Rattle.tdb_overlay.specs.NextText.{FindsAll, GoesOnWith, IsLaidText, IsNextText, NamesMark}
 use Rattle.tdb_overlay.specs.SealedOnly.{IsRecord}
 use Rattle.tdb_overlay.specs.StoreState.{StoreState, first_state}

@@ -1,14 +1,13 @@
 -- Texts that come next: of a commit, and of the start of a log, all of whose pieces are written before them.
-use Rattle.std.proofs.Common.{◌≡◌, ◌⊎◌, inl, inr, ⊎_elim, ℕ, ◌+◌, ◌≤◌, ◌==◌, cond, IsNone, List, [], ◌∷◌, ◌++◌, Option, Some, None, replicate, refl, sym, ◌∙◌, ap, subst, arith}
+use Rattle.std.proofs.Common.{◌≡◌, ◌⊎◌, inl, inr, ℕ, ◌+◌, ◌==◌, cond, List, [], ◌∷◌, Option, Some, None, replicate, refl, sym, ◌∙◌, ap, subst, arith}
 use Rattle.std.specs.Prelude.{All}
 use Rattle.std.specs.List.{AllByRecursion}
 use Rattle.std.specs.Ordering.{nat_cmp}
-use Rattle.std.specs.FinSet.{contains, contains-empty}
+use Rattle.std.specs.FinSet.{contains-empty}
 use Rattle.std.proofs.lemmas.Bool.{false≢true}
 use Rattle.std.proofs.lemmas.Option.{same_Some}
 use Rattle.tdb_append.specs.Placed.{Placed}
 use Rattle.tdb_base.specs.declared.piece.Piece.{Piece}
-use Rattle.tdb_base.specs.declared.suite.Suite.{Suite}
 use Rattle.tdb_base.specs.Trace.{WrittenPiece}
 use Rattle.tdb_list.specs.declared.entry.Entry.{Entry}
 use Rattle.tdb_mark.specs.declared.commit.Commit.{Commit}

@@ -1,5 +1,5 @@
 -- A log stays as more is written, and a put of records and the next text makes it longer.
-use Rattle.std.proofs.Common.{◌≡◌, ◌⊎◌, inl, inr, ◌+◌, ℕ, List, [], ◌∷◌, ◌++◌, Option, Some, Bool, true, cond, ◌&&◌, ◌==◌, replicate, refl, sym, ◌∙◌, ap, subst, append-nil, add-one}
+use Rattle.std.proofs.Common.{◌≡◌, ◌⊎◌, inl, inr, ◌+◌, ℕ, List, [], ◌∷◌, ◌++◌, Option, Some, Bool, true, cond, ◌&&◌, ◌==◌, replicate, refl, sym, ◌∙◌, ap, subst, add-one}
 use Rattle.std.specs.Str.{bytes_eq}
 use Rattle.std.proofs.lemmas.Bool.Decides.{eqb_tells}
 use Rattle.std.proofs.lemmas.Slice.Eq.{bytes_eq-Decides}

@@ -1,27 +1,25 @@
 -- The put of a text that comes next is a step of a run: it adds what the text adds.
 use Rattle.std.proofs.Common.{◌≡◌, ◌⊎◌, inl, inr, ⊎_elim, ℕ, ◌+◌, ◌≤◌, Bool, List, [], ◌∷◌, ◌++◌, IsTrue, Result, Ok, Err, length, refl, sym, ◌∙◌, ap, subst, append-nil, arith}
-use Rattle.std.specs.Prelude.{OnErr, OnOk}
+use Rattle.std.specs.Prelude.{OnOk}
 use Rattle.sha2.specs.Sha256.{sha256}
 use Rattle.tdb_append.specs.Placed.{EachHolds, Placed, SameExceptAt, with_all_written}
 use Rattle.tdb_append.specs.Put.{IsNext, IsOld, Puts, slot_place}
-use Rattle.tdb_base.specs.Trace.{Extends, IsNumbered, Trace, WrittenPiece}
+use Rattle.tdb_base.specs.Trace.{Extends, IsNumbered, WrittenPiece}
 use Rattle.tdb_mark.specs.declared.commit.Commit.{Commit}
 use Rattle.tdb_mark.specs.CommitText.{commit_key_of, commit_of}
-use Rattle.tdb_mark.specs.Unforged.{IsUnforged}
 use Rattle.tdb_mark.proofs.TextLemmas.{commit_of_is}
 use Rattle.tdb_mark.proofs.UnforgedLemmas.{IsUnforged-before}
 use Rattle.tdb_model.specs.Apply.{History}
 use Rattle.tdb_platform.specs.Outside.{Anchor, Outside, Told}
-use Rattle.tdb_platform.specs.CrashStates.{CrashStates, Pairs, now}
+use Rattle.tdb_platform.specs.CrashStates.{CrashStates, now}
 use Rattle.tdb_overlay.specs.Found.{Store}
 use Rattle.tdb_overlay.specs.Growth.{IsSettled}
-use Rattle.tdb_overlay.specs.Images.{AllStandIn, IsIntactIn}
+use Rattle.tdb_overlay.specs.Images.{IsIntactIn}
 use Rattle.tdb_overlay.specs.Log.{IsLog}
-use Rattle.tdb_overlay.specs.NextText.{GoesOnWith, IsLaidText, IsNextText}
-use Rattle.tdb_overlay.specs.Ran.{FromLeft, IsFront, Leads, RanOn, RanStep}
+use Rattle.tdb_overlay.specs.NextText.{GoesOnWith, IsLaidText}
+use Rattle.tdb_overlay.specs.Ran.{FromLeft, Leads, RanOn, RanStep}
 use Rattle.tdb_overlay.specs.SealedOnly.{IsTextInSlot}
 use Rattle.tdb_overlay.specs.Sound.{IsSound}
-use Rattle.tdb_overlay.specs.StoreState.{StoreState}
 use Rattle.tdb_overlay.specs.WellFormedLog.{IsAnchored, IsKeptLog, IsWellFormedTrace}
 use Rattle.tdb_overlay.proofs.ImageLaws.{intact_over}
 use Rattle.tdb_overlay.proofs.KeptLaws.{formed, next_log, slot, text_named}

@@ -13,7 +13,6 @@ use Rattle.tdb_overlay.specs.Log.{IsLog}
 use Rattle.tdb_overlay.specs.Ran.{FromLeft, IsFront, Leads, RanOn, StaysAnchored}
 use Rattle.tdb_overlay.specs.Reading.{OnlyReads}
 use Rattle.tdb_overlay.specs.Sound.{IsSound}
-use Rattle.tdb_overlay.specs.StoreState.{StoreState}
 use Rattle.tdb_overlay.specs.WellFormedLog.{IsAnchored, IsKeptLog, IsWellFormedLog, IsWellFormedTrace, NamesText}
 use Rattle.tdb_overlay.proofs.ImageLaws.{intact_stays}
 use Rattle.tdb_overlay.proofs.KeptLaws.{names_stays}

@@ -1,9 +1,7 @@
 -- Where the pieces stand that a log needs, and which those are in a longer trace.
-use Rattle.std.proofs.Common.{◌≡◌, ◌⊎◌, inl, inr, ⊎_elim, ℕ, ◌+◌, ◌≤◌, IsNone, List, [], ◌∷◌, ◌++◌, length, Option, Some, None, refl, sym, ◌∙◌, ap, subst, arith}
-use Rattle.std.proofs.lemmas.Bool.{cases_lt}
+use Rattle.std.proofs.Common.{◌≡◌, inl, inr, ⊎_elim, ◌≤◌, IsNone, List, [], ◌∷◌, ◌++◌, length, Option, Some, refl, sym, ◌∙◌, ap, subst, arith}
 use Rattle.std.proofs.lemmas.Option.{same_Some}
 use Rattle.std.specs.List.{AllByRecursion}
-use Rattle.tdb_append.specs.Put.{slot_place}
 use Rattle.tdb_base.specs.declared.piece.Piece.{Piece}
 use Rattle.tdb_base.specs.declared.suite.Suite.{Suite}
 use Rattle.tdb_base.specs.Trace.{WrittenPiece}
@@ -15,12 +13,12 @@ use Rattle.tdb_mark.proofs.ChainLemmas.{commit_chain-stays}
 use Rattle.tdb_model.specs.Apply.{History}
 use Rattle.tdb_platform.specs.Outside.{Anchor}
 use Rattle.tdb_seg.specs.SegmentSpace.{IsSegmentSpace}
-use Rattle.tdb_overlay.specs.Changes.{HasChanges, named_records}
+use Rattle.tdb_overlay.specs.Changes.{named_records}
 use Rattle.tdb_overlay.specs.CheckpointState.{IsReached}
 use Rattle.tdb_overlay.specs.Found.{Finds, FindsOne, Finer, Store, in_trace, store_of_text}
 use Rattle.tdb_overlay.specs.Log.{Adds, IsLog, IsLogOf}
-use Rattle.tdb_overlay.specs.Required.{IsNamedBy, IsRequired, RestsOn, base_of}
-use Rattle.tdb_overlay.specs.RequiredPlaces.{IsRecentText, IsWhereRequired}
+use Rattle.tdb_overlay.specs.Required.{IsRequired, RestsOn, base_of}
+use Rattle.tdb_overlay.specs.RequiredPlaces.{IsWhereRequired}
 use Rattle.tdb_overlay.specs.StoreState.{StoreState, first_state}
 use Rattle.tdb_overlay.proofs.Chains.{LogCounts, chain_in_format, log_counts}
 use Rattle.tdb_overlay.proofs.CheckpointLaws.{none_reached, reached_before}

@@ -1,5 +1,5 @@
 -- What a run of calls makes of a platform, from one value of it to a later one.
-use Rattle.std.specs.Prelude.{◌≡◌, ◌⊎◌, ◌≤◌, ℕ, List, [], ◌++◌, Result, IsTrue, OnErr, OnOk}
+use Rattle.std.specs.Prelude.{◌≡◌, ◌≤◌, ℕ, List, [], ◌++◌, Result, IsTrue, OnErr, OnOk}
 use Rattle.tdb_base.specs.Trace.{Extends, WrittenPiece}
 use Rattle.tdb_model.specs.Apply.{History}
 use Rattle.tdb_platform.specs.Outside.{Anchor, Outside}
