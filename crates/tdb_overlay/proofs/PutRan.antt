@@ -32,8 +32,10 @@ use Rattle.tdb_overlay.proofs.Unmistaken.{text_length}
 
 module _ {D : Type 0} (outside : D → Outside) (crash_states : D → CrashStates)
     (counts : (p : D) (t u : ℕ) (i : List ℕ) (a : Anchor) → t ≤ u → u ≤ (outside p).clock → crash_states p u i a → crash_states p t i a)
-    (numbered : (p : D) → IsTrue (outside p).tells → IsNumbered (outside p).trace) (store : Store) (old new : D) (text : List ℕ) (c : Commit) (ps : List Placed) (added : History) (laid : IsLaidText store.secret text c ps)
-    (settled : IsSettled outside crash_states old) (goes : IsSound store.secret (outside old) → GoesOnWith (outside old).trace.written store (outside old).anchor c ps added) where
+    (numbered : (p : D) → IsTrue (outside p).tells → IsNumbered (outside p).trace) (store : Store) (old new : D) (text : List ℕ)
+    (c : Commit) (ps : List Placed) (added : History) (laid : IsLaidText store.secret text c ps)
+    (settled : IsSettled outside crash_states old)
+    (goes : IsSound store.secret (outside old) → GoesOnWith (outside old).trace.written store (outside old).anchor c ps added) where
   abbrev before : List WrittenPiece
   before = (outside old).trace.written
 
@@ -52,7 +54,8 @@ module _ {D : Type 0} (outside : D → Outside) (crash_states : D → CrashState
   long : length text ≡ 256
   long = text_length (commit_key_of store.secret) text c laid.accepted
 
-  module _ {T E : Type 0} (result : Result T E) (puts : Puts outside crash_states old new (ps ++ in_slot ∷ []) next result) (told : Told (outside old) (outside new) result) where
+  module _ {T E : Type 0} (result : Result T E) (puts : Puts outside crash_states old new (ps ++ in_slot ∷ []) next result)
+      (told : Told (outside old) (outside new) result) where
     grows : IsTrue (outside old).tells → Extends (outside old).trace (outside new).trace
     grows tells = subst (Extends (outside old).trace) (sym (puts.wrote.trace tells)) (grows_all (outside old).trace puts.done)
 
@@ -64,17 +67,24 @@ module _ {D : Type 0} (outside : D → Outside) (crash_states : D → CrashState
       grew = grows tells
 
       was_sound : IsSound store.secret (outside old)
-      was_sound = record { tells = tells; unforged = IsUnforged-before (outside old).trace (outside new).trace (commit_of (commit_key_of store.secret)) (numbered old tells) grew sound.unforged }
+      was_sound = record {
+        tells = tells;
+        unforged = IsUnforged-before (outside old).trace (outside new).trace
+            (commit_of (commit_key_of store.secret)) (numbered old tells) grew sound.unforged;
+      }
 
       goes_on : GoesOnWith before store head c ps added
       goes_on = goes was_sound
 
       -- an image over which a front was written
-      over : (a : Anchor) → a ≡ head → (image i : List ℕ) → SameExceptAt puts.done image i → IsIntactIn image before store a → IsIntactIn i before store a
+      over : (a : Anchor) → a ≡ head → (image i : List ℕ) → SameExceptAt puts.done image i → IsIntactIn image before store a
+          → IsIntactIn i before store a
       over a at image i same is =
-          let log : IsLog before store head is.history is.last = subst (λ (b : Anchor). IsLog before store b is.history is.last) at is.log in
+          let log : IsLog before store head is.history is.last = subst
+          (λ (b : Anchor). IsLog before store b is.history is.last) at is.log in
           let on = goes_on store refl is.history is.last log in
-          let slotted : slot_place c.count ≡ slot_place (is.last.count + 1) = ap slot_place (on.1.1.count ∙ ap (λ (n : ℕ). n + 1) (sym (log_at before store head is.history is.last log))) in
+          let slotted : slot_place c.count ≡ slot_place (is.last.count + 1) = ap slot_place
+          (on.1.1.count ∙ ap (λ (n : ℕ). n + 1) (sym (log_at before store head is.history is.last log))) in
           record {
             history = is.history;
             last = is.last;
@@ -84,14 +94,16 @@ module _ {D : Type 0} (outside : D → Outside) (crash_states : D → CrashState
 
       -- the old anchor
       module _ (i : List ℕ) (a : Anchor) (is : IsOld (outside old).honest puts.done (now outside crash_states old) i a) where
-        old_from : (surely maybe : History) → Leads store before after surely maybe a a → FromLeft outside crash_states store old new surely maybe i a
+        old_from : (surely maybe : History) → Leads store before after surely maybe a a
+            → FromLeft outside crash_states store old new surely maybe i a
         old_from surely maybe leads = record {
           image = is.before;
           anchor = a;
           left = is.left;
           leads = leads;
           anchored = still_anchored store (outside old).trace (outside new).trace grew a;
-          spares = λ honest intact. still_intact store (outside old).trace (outside new).trace grew a i (over a (settled tells is.before a is.left) is.before i (is.same honest) intact);
+          spares = λ honest intact. still_intact store (outside old).trace (outside new).trace grew a i
+              (over a (settled tells is.before a is.left) is.before i (is.same honest) intact);
         }
 
         -- begins none of them,
@@ -121,25 +133,32 @@ module _ {D : Type 0} (outside : D → Outside) (crash_states : D → CrashState
               ([], refl),
               subst (λ (b : Anchor). IsLog after store b (was ++ (added ++ [])) on.1.0) (sym is)
                   (subst (λ (h : History). IsLog after store next (was ++ h) on.1.0) (sym (append-nil added))
-                  (next_log store (outside old).trace (outside new).trace head text c ps laid wrote sound.unforged was added from on.1.0 on.0 on.1.1)),
+                  (next_log store (outside old).trace
+                  (outside new).trace head text c ps laid wrote sound.unforged was added from on.1.0 on.0 on.1.1)),
             )
 
         next_anchored : (a : Anchor) → a ≡ next → IsAnchored after store.secret a
-        next_anchored a is = subst (IsAnchored after store.secret) (sym is) (inr (text_named store (outside old).trace (outside new).trace head text c ps laid wrote))
+        next_anchored a is = subst (IsAnchored after store.secret) (sym is)
+            (inr (text_named store (outside old).trace (outside new).trace head text c ps laid wrote))
 
-        next_intact : (image i : List ℕ) → EachHolds i puts.done → SameExceptAt puts.done image i → IsIntactIn image before store head → IsIntactIn i after store next
+        next_intact : (image i : List ℕ) → EachHolds i puts.done → SameExceptAt puts.done image i → IsIntactIn image before store head
+            → IsIntactIn i after store next
         next_intact image i holds same is =
             let on = goes_on store refl is.history is.last is.log in
             let still = over head refl image i same is in
             record {
               history = is.history ++ added;
               last = on.1.0;
-              log = next_log store (outside old).trace (outside new).trace head text c ps laid wrote sound.unforged is.history added is.last on.1.0 on.0 on.1.1;
-              stand = stand_next store (outside old).trace (outside new).trace head text c ps laid wrote sound.unforged is.history added is.last on.1.0 on.0 on.1.1 i
+              log = next_log store (outside old).trace
+                  (outside new).trace head text c ps laid wrote sound.unforged is.history added is.last on.1.0 on.0 on.1.1;
+              stand = stand_next store (outside old).trace
+                  (outside new).trace head text c ps laid wrote sound.unforged is.history added is.last on.1.0 on.0 on.1.1 i
                   (subst (EachHolds i) (sym all_done) holds) still.stand;
             }
 
-      pub next_from : (i : List ℕ) (a : Anchor) → IsNext (outside old).honest puts.done puts.rest next (now outside crash_states old) i a → FromLeft outside crash_states store old new added [] i a
+      pub next_from : (i : List ℕ) (a : Anchor)
+          → IsNext (outside old).honest puts.done puts.rest next (now outside crash_states old) i a
+          → FromLeft outside crash_states store old new added [] i a
       next_from i a is =
           let at : is.old_anchor ≡ head = settled tells is.over.before is.old_anchor is.over.left in
           record {
@@ -150,7 +169,8 @@ module _ {D : Type 0} (outside : D → Outside) (crash_states : D → CrashState
             anchored = λ was. next_anchored is.complete a is.is_next;
             spares = λ honest intact.
                 subst (λ (b : Anchor). IsIntactIn i after store b) (sym is.is_next)
-                (next_intact is.complete is.over.before i (is.holds honest) (is.over.same honest) (subst (λ (b : Anchor). IsIntactIn is.over.before before store b) at intact));
+                (next_intact is.complete is.over.before i (is.holds honest) (is.over.same honest)
+                (subst (λ (b : Anchor). IsIntactIn is.over.before before store b) at intact));
           }
 
       all_part : (a b : Anchor) → Leads store before after added [] a b → Leads store before after [] added a b
@@ -162,7 +182,8 @@ module _ {D : Type 0} (outside : D → Outside) (crash_states : D → CrashState
           all_of [] rest is = ap (λ (h : History). h ++ rest) (append-nil added) ∙ ap (λ (h : History). added ++ h) is ∙ append-nil added
           all_of (x ∷ front) rest is = absurd (cc is)
 
-      next_begun : (i : List ℕ) (a : Anchor) → FromLeft outside crash_states store old new added [] i a → FromLeft outside crash_states store old new [] added i a
+      next_begun : (i : List ℕ) (a : Anchor) → FromLeft outside crash_states store old new added [] i a
+          → FromLeft outside crash_states store old new [] added i a
       next_begun i a f = record {
         image = f.image;
         anchor = f.anchor;
@@ -173,16 +194,24 @@ module _ {D : Type 0} (outside : D → Outside) (crash_states : D → CrashState
       }
 
       either : (i : List ℕ) (a : Anchor)
-          → IsOld (outside old).honest puts.done (now outside crash_states old) i a ⊎ IsNext (outside old).honest puts.done puts.rest next (now outside crash_states old) i a
+          → IsOld (outside old).honest puts.done (now outside crash_states old) i a
+          ⊎ IsNext (outside old).honest puts.done puts.rest next (now outside crash_states old) i a
           → FromLeft outside crash_states store old new [] added i a
       either i a (inl was) = old_stays i a was added
       either i a (inr is) = next_begun i a (next_from i a is)
 
       well_formed : IsKeptLog outside crash_states store.secret old → IsWellFormedTrace after store.secret
-      well_formed kept = formed store (outside old).trace (outside new).trace head text c ps laid puts.done puts.rest puts.in_order (puts.wrote.trace tells) sound.unforged added goes_on kept.anchor
+      well_formed kept = formed store (outside old).trace (outside new).trace head text c ps laid puts.done puts.rest puts.in_order
+          (puts.wrote.trace tells) sound.unforged added goes_on kept.anchor
 
     text_in_slot : IsTextInSlot store.secret (slot_place c.count) text
-    text_in_slot = record { commit = c; value = laid.value; spelled = commit_of_is (commit_key_of store.secret) text c laid.accepted; slot = refl }
+    text_in_slot = record {
+      commit = c;
+      value = laid.value;
+      spelled = commit_of_is
+          (commit_key_of store.secret) text c laid.accepted;
+      slot = refl;
+    }
 
     -- what a stop may leave now, it may leave since the start
     since_start : (i : List ℕ) (a : Anchor) → now outside crash_states new i a → crash_states new (outside old).clock i a
@@ -190,24 +219,28 @@ module _ {D : Type 0} (outside : D → Outside) (crash_states : D → CrashState
 
     ran_by : (surely maybe : History) → surely ++ maybe ≡ added
         → (IsSound store.secret (outside new) → Leads store before after surely maybe head (outside new).anchor)
-        → (IsSound store.secret (outside new) → (i : List ℕ) (a : Anchor) → now outside crash_states new i a → FromLeft outside crash_states store old new surely maybe i a)
+        → (IsSound store.secret (outside new) → (i : List ℕ) (a : Anchor) → now outside crash_states new i a
+        → FromLeft outside crash_states store old new surely maybe i a)
         → RanOn outside crash_states store old surely maybe new
     ran_by surely maybe all leads left = record {
       tells = told.tells;
       honest = told.honest;
       grows = grows;
       faults = told.no_fewer_faults;
-      sealed = λ tells. put_sealed store.secret c.count ps puts.done puts.rest text (outside old).trace (outside new).trace laid.records laid.in_segments text_in_slot puts.in_order (puts.wrote.trace tells);
+      sealed = λ tells. put_sealed store.secret c.count ps puts.done puts.rest text (outside old).trace
+          (outside new).trace laid.records laid.in_segments text_in_slot puts.in_order (puts.wrote.trace tells);
       formed = well_formed;
       leads = leads;
       anchored = λ sound was.
           ⊎_elim
-          (λ same. subst (IsAnchored after store.secret) (sym same) (still_anchored store (outside old).trace (outside new).trace (grew sound) head was))
+          (λ same. subst (IsAnchored after store.secret) (sym same)
+          (still_anchored store (outside old).trace (outside new).trace (grew sound) head was))
           (λ is. next_anchored sound is.1 (outside new).anchor is.0) (puts.anchor (tells sound));
       left = left;
       moments = record {
         later = puts.any_moment.later;
-        each = λ i a since sound. subst (λ (h : History). FromLeft outside crash_states store old new [] h i a) (sym all) (either sound i a (puts.any_moment.each i a since));
+        each = λ i a since sound. subst (λ (h : History). FromLeft outside crash_states store old new [] h i a) (sym all)
+            (either sound i a (puts.any_moment.each i a since));
         before = puts.any_moment.before;
         keeps = puts.any_moment.keeps;
       };
@@ -217,21 +250,26 @@ module _ {D : Type 0} (outside : D → Outside) (crash_states : D → CrashState
     begun : RanOn outside crash_states store old [] added new
     begun = ran_by [] added refl
         (λ sound. ⊎_elim
-        (λ same. subst (λ (b : Anchor). Leads store before after [] added head b) (sym same) (still_leads store (outside old).trace (outside new).trace (grew sound) head added))
+        (λ same. subst (λ (b : Anchor). Leads store before after [] added head b) (sym same)
+        (still_leads store (outside old).trace (outside new).trace (grew sound) head added))
         (λ is. all_part sound head (outside new).anchor (next_leads sound is.1 (outside new).anchor is.0)) (puts.anchor (tells sound)))
         (λ sound i a here. either sound i a (puts.any_moment.each i a (since_start i a here)))
 
     -- after all went well
-    made : puts.rest ≡ [] → (IsTrue (outside old).tells → (outside new).anchor ≡ next) → (IsTrue (outside old).tells → (i : List ℕ) (a : Anchor) → now outside crash_states new i a → a ≡ next)
+    made : puts.rest ≡ [] → (IsTrue (outside old).tells → (outside new).anchor ≡ next)
+        → (IsTrue (outside old).tells → (i : List ℕ) (a : Anchor) → now outside crash_states new i a → a ≡ next)
         → RanOn outside crash_states store old added [] new
     made complete advanced only = ran_by added [] (append-nil added)
         (λ sound. next_leads sound complete (outside new).anchor (advanced (tells sound)))
         (λ sound i a here. ⊎_elim
-        (λ was. old_never sound i a was added (only (tells sound) i a here)) (λ is. next_from sound i a is) (puts.any_moment.each i a (since_start i a here)))
+        (λ was. old_never sound i a was added (only (tells sound) i a here)) (λ is. next_from sound i a is)
+        (puts.any_moment.each i a (since_start i a here)))
 
   -- A put of a text that comes next adds what the text adds.
-  pub put_ran : {T E : Type 0} (result : Result T E) → Puts outside crash_states old new (ps ++ in_slot ∷ []) next result → Told (outside old) (outside new) result
-      → (IsTrue (outside old).tells → OnOk result ((outside new).anchor ≡ next)) → (IsTrue (outside old).tells → OnOk result ((i : List ℕ) (a : Anchor) → now outside crash_states new i a → a ≡ next))
+  pub put_ran : {T E : Type 0} (result : Result T E) → Puts outside crash_states old new (ps ++ in_slot ∷ []) next result
+      → Told (outside old) (outside new) result
+      → (IsTrue (outside old).tells → OnOk result ((outside new).anchor ≡ next))
+      → (IsTrue (outside old).tells → OnOk result ((i : List ℕ) (a : Anchor) → now outside crash_states new i a → a ≡ next))
       → RanStep outside crash_states store added old new result
   put_ran (Ok x) puts told advanced only = record { ok = made (Ok x) puts told (puts.complete refl) advanced only; begun = tt }
   put_ran (Err e) puts told advanced only = record { ok = tt; begun = begun (Err e) puts told }
