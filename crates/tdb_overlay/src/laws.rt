@@ -17,7 +17,7 @@ ghost use Rattle.tdb_overlay.specs.Images.{IsIntactIn};
 ghost use Rattle.tdb_overlay.specs.Log.{IsLog};
 ghost use Rattle.tdb_overlay.specs.NextText.{GoesOnWith, IsLaidText};
 ghost use Rattle.tdb_overlay.specs.Required.{IsRequired};
-ghost use Rattle.tdb_overlay.specs.RequiredPlaces.{AreClearOf, HasSameBytes, IsClearOf};
+ghost use Rattle.tdb_overlay.specs.RequiredPlaces.{AreClearOf, HasSameBytes, IsClearOf, IsWhereRequired};
 ghost use Rattle.tdb_overlay.specs.SealedOnly.{IsRecord};
 ghost use Rattle.tdb_overlay.specs.StoreState.{StoreState};
 ghost use Rattle.tdb_overlay.specs.WellFormedLog.{IsWellFormedLog};
@@ -59,8 +59,12 @@ pub fn log_extends()
         (to : StoreState) × IsLog later.written store (c.count, sha256 text) (before ++ added) to) }
 {}
 
-/// What a log needs has no byte in the slot of the next count, nor where anything is placed after its last state.
+/// What a log needs stands in the slot of one of its last 1,001 texts, or where it was placed. So it has no byte in the slot of
+/// the next count, nor where anything is placed after the log's last state.
 pub fn placing_spares_required()
+    ensures stands { (written : List WrittenPiece) (store : Store) (anchor : Anchor) (history : History) (last : StoreState)
+        (piece : Piece) →
+        IsLog written store anchor history last → IsRequired written store anchor piece → IsWhereRequired last piece }
     ensures slot { (written : List WrittenPiece) (store : Store) (anchor : Anchor) (history : History) (last : StoreState)
         (piece : Piece) →
         IsLog written store anchor history last → IsRequired written store anchor piece → IsClearOf piece (slot_place (anchor.0 + 1)) 256 }

@@ -11,6 +11,7 @@ mod keys;
 mod laws;
 mod overlay;
 mod recovered;
+mod runs;
 #[cfg(test)]
 mod tests;
 
@@ -22,3 +23,4 @@ pub use laws::{
 };
 pub use overlay::{Leader, Overlay, Seen};
 pub use recovered::Recovered;
+pub use runs::{put_is_a_step, runs_join, runs_keep};
