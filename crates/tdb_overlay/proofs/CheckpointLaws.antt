@@ -13,11 +13,13 @@ module _ (f g : Finds) (finer : Finer f g) where
   reached_stays store root piece is = is
 
   -- What is reached where more is found, was reached where the whole tree was found.
-  pub reached_before : FindsOne g → (store : Store) (root : Option Piece) (state : State) (piece : Piece) → IsTreeState f store root state → IsReached g store root piece → IsReached f store root piece
+  pub reached_before : FindsOne g → (store : Store) (root : Option Piece) (state : State) (piece : Piece)
+      → IsTreeState f store root state → IsReached g store root piece → IsReached f store root piece
   reached_before one store root state piece is reached = reached
 
 -- A root tells one state.
-pub tree_is_one : (f : Finds) → FindsOne f → (store : Store) (root : Option Piece) (a b : State) → IsTreeState f store root a → IsTreeState f store root b → a ≡ b
+pub tree_is_one : (f : Finds) → FindsOne f → (store : Store) (root : Option Piece) (a b : State) → IsTreeState f store root a
+    → IsTreeState f store root b → a ≡ b
 tree_is_one f one store root a b is_a is_b = is_a.1 ∙ sym is_b.1
 
 -- Without a root nothing is reached.

@@ -9,10 +9,12 @@ pub mod Listed
 pub mod LogLaws
 pub mod Needing
 pub mod NextLaws
+pub mod NextTexts
 pub mod OneLog
 pub mod PlacedLogs
 pub mod Placings
 pub mod PutLogs
+pub mod PutRan
 pub mod RanLaws
 pub mod ReadingLaws
 pub mod RequiredLaws

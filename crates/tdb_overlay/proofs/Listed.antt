@@ -1,9 +1,9 @@
 -- What holds of each part of a list.
-use Rattle.std.proofs.Common.{◌≡◌, ◌⊎◌, inl, inr, ℕ, zero, suc, List, [], ◌∷◌, ◌++◌, length, arith, subst}
-use Rattle.std.specs.Prelude.{All, AllPairs}
+use Rattle.std.proofs.Common.{inl, inr, ℕ, List, [], ◌∷◌, ◌++◌, arith, subst}
+use Rattle.std.specs.Prelude.{All}
 use Rattle.std.specs.List.{AllByRecursion}
 use Rattle.std.proofs.lemmas.List.Elements.{All-tail}
-use Rattle.tdb_append.specs.Placed.{IsApart, Placed}
+use Rattle.tdb_append.specs.Placed.{Placed}
 use Rattle.tdb_overlay.specs.LaidPieces.{IsOneOf}
 
 pub all_more : {X : Type 0} (P : X → Type 0) (xs : List X) (x : X) → AllByRecursion P xs → P x → AllByRecursion P (xs ++ x ∷ [])
@@ -27,7 +27,8 @@ all_listed P [] all = tt
 all_listed P (x ∷ xs) all = (all 0 x (omega arith), all_listed P xs (All-tail P x xs all))
 
 -- of each laid piece
-pub one_of_all : (P : ℕ → List ℕ → Type 0) (ps : List Placed) (place : ℕ) (bytes : List ℕ) → AllByRecursion (λ p. P p.place p.bytes) ps → IsOneOf ps place bytes → P place bytes
+pub one_of_all : (P : ℕ → List ℕ → Type 0) (ps : List Placed) (place : ℕ) (bytes : List ℕ) → AllByRecursion (λ p. P p.place p.bytes) ps
+    → IsOneOf ps place bytes → P place bytes
 one_of_all P [] place bytes all is = absurd is
 one_of_all P (p ∷ ps) place bytes all (inl here) = subst (λ (k : ℕ). P k bytes) here.0 (subst (λ (b : List ℕ). P p.place b) here.1 all.0)
 one_of_all P (p ∷ ps) place bytes all (inr is) = one_of_all P ps place bytes all.1 is

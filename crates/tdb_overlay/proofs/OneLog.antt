@@ -1,5 +1,5 @@
 -- An anchor has one log: its history, its last state and its suite.
-use Rattle.std.proofs.Common.{◌≡◌, ◌⊎◌, inl, inr, ℕ, zero, suc, ◌+◌, ◌≤◌, ◌&&◌, Bool, true, false, List, [], ◌∷◌, ◌++◌, length, Option, Some, None, Ok, Result, refl, sym, ◌∙◌, ap, subst, arith, add-one, length-append}
+use Rattle.std.proofs.Common.{◌≡◌, ◌⊎◌, inl, inr, ℕ, zero, suc, ◌+◌, ◌≤◌, ◌&&◌, Bool, true, false, List, [], ◌∷◌, ◌++◌, length, Some, Ok, Result, refl, sym, ◌∙◌, ap, subst, arith, add-one, length-append}
 use Rattle.std.proofs.lemmas.Bool.{eqb-true}
 use Rattle.std.proofs.lemmas.Option.{same_Some}
 use Rattle.tdb_base.specs.declared.names.PartId.{PartId}
@@ -60,8 +60,10 @@ module _ (f : Finds) (one : FindsOne f) (secret : List ℕ) where
       let sealed : x.sealed ≡ y.sealed = one e.piece x.sealed y.sealed x.found y.found in
       let suite : x.suite ≡ y.suite = one_suite x.suite y.suite (x.numbered ∙ sym y.numbered) in
       same_plain (partition_key secret e.home e.birth) (record { kind = 1; suite = y.suite; home = e.home; rank = e.rank }) a b y.sealed
-      (subst (λ (s : Suite). IsSealedRecord (partition_key secret e.home e.birth) (record { kind = 1; suite = s; home = e.home; rank = e.rank }) a y.sealed) suite
-      (subst (λ (s : List ℕ). IsSealedRecord (partition_key secret e.home e.birth) (record { kind = 1; suite = x.suite; home = e.home; rank = e.rank }) a s) sealed x.opened)) y.opened
+      (subst (λ (s : Suite). IsSealedRecord (partition_key secret e.home e.birth)
+      (record { kind = 1; suite = s; home = e.home; rank = e.rank }) a y.sealed) suite
+      (subst (λ (s : List ℕ). IsSealedRecord (partition_key secret e.home e.birth)
+      (record { kind = 1; suite = x.suite; home = e.home; rank = e.rank }) a s) sealed x.opened)) y.opened
 
   one_part : (n : ℕ) (p q : PartId) → n ≡ p.0 → n ≡ q.0 → p ≡ q
   one_part n p q a b = λ i. record { 0 = (sym a ∙ b) i }
@@ -105,16 +107,20 @@ module _ (f : Finds) (one : FindsOne f) (secret : List ℕ) where
   -- so does a text
   pub text_changes_one : (c : Commit) (xs ys : List Change) → HasChanges f secret c xs → HasChanges f secret c ys → xs ≡ ys
   text_changes_one c xs ys a b =
-      changes_one b.entries xs ys (subst (λ (es : List Entry). AreChangesOf f secret es xs) (one_list f one secret c xs ys a b) a.each) b.each
+      changes_one b.entries xs ys
+      (subst (λ (es : List Entry). AreChangesOf f secret es xs) (one_list f one secret c xs ys a b) a.each) b.each
 
   -- and one table
   pub table_one : (c : Commit) (a b : HasTable f secret c) → a.table ≡ b.table
   table_one c a b =
       let sealed : a.sealed ≡ b.sealed = one c.first a.sealed b.sealed a.found b.found in
       let plain : table_bytes a.table ≡ table_bytes b.table =
-      same_plain (system_key secret) (record { kind = 4; suite = c.suite; home = 0; rank = 0 }) (table_bytes a.table) (table_bytes b.table) b.sealed
-      (subst (λ (s : List ℕ). IsSealedRecord (system_key secret) (record { kind = 4; suite = c.suite; home = 0; rank = 0 }) (table_bytes a.table) s) sealed a.opened) b.opened in
-      same_table a.table b.table (table_bytes b.table) (record { value = a.value; table = a.is_table; spelled = sym plain }) (record { value = b.value; table = b.is_table; spelled = refl })
+      same_plain (system_key secret) (record { kind = 4; suite = c.suite; home = 0; rank = 0 }) (table_bytes a.table)
+      (table_bytes b.table) b.sealed
+      (subst (λ (s : List ℕ). IsSealedRecord (system_key secret) (record { kind = 4; suite = c.suite; home = 0; rank = 0 })
+      (table_bytes a.table) s) sealed a.opened) b.opened in
+      same_table a.table b.table (table_bytes b.table) (record { value = a.value; table = a.is_table; spelled = sym plain })
+      (record { value = b.value; table = b.is_table; spelled = refl })
 
 -- what one text adds in a state, and the state after it
 abbrev IsSame : History → StoreState → History → StoreState → Type 0
@@ -124,11 +130,19 @@ same_ok : (a b : StoreState) (r : Result StoreState CommitError) → r ≡ Ok a 
 same_ok a b r x y = let e : ◌≡◌ {A = Result StoreState CommitError} (Ok a) (Ok b) = sym x ∙ y in cc e
 
 module _ (f : Finds) (one : FindsOne f) (store : Store) (before : StoreState) (c : Commit) where
-  adds_one : (added more : History) (after next : StoreState) → Adds f store before c added after → Adds f store before c more next → IsSame added after more next
+  adds_one : (added more : History) (after next : StoreState) → Adds f store before c added after → Adds f store before c more next
+      → IsSame added after more next
   adds_one added more after next (inl x) (inl y) =
       let table : x.0.table.table ≡ y.0.table.table = table_one f one store.secret c x.0.table y.0.table in (
         x.1 ∙ sym y.1,
-        x.0.after_is ∙ ap (λ (t : Table). let s : StoreState = record { count = c.count; base = c.count; space = table_space t (end_of c.first); chunks = before.chunks } in s) table ∙ sym y.0.after_is,
+        x.0.after_is ∙ ap
+            (λ (t : Table). let s : StoreState = record {
+              count = c.count;
+              base = c.count;
+              space = table_space t
+                  (end_of c.first);
+              chunks = before.chunks;
+            } in s) table ∙ sym y.0.after_is,
       )
   adds_one added more after next (inl x) (inr y) = absurd (omega (arith, x.0.kind, y.1.kind))
   adds_one added more after next (inr x) (inl y) = absurd (omega (arith, x.1.kind, y.0.kind))
@@ -138,47 +152,65 @@ module _ (f : Finds) (one : FindsOne f) (store : Store) (before : StoreState) (c
         same_ok after next _ (subst (λ (cs : List Change). commit_on store before cs ≡ Ok after) changes x.1.allowed) y.1.allowed,
       )
 
-  pub step_one : (added more : History) (after next : StoreState) → IsStep f store before c added after → IsStep f store before c more next → IsSame added after more next
+  pub step_one : (added more : History) (after next : StoreState) → IsStep f store before c added after
+      → IsStep f store before c more next → IsSame added after more next
   step_one added more after next x y = adds_one added more after next x.adds y.adds
 
 module _ (f : Finds) (one : FindsOne f) where
-  logs_one : (store : Store) (before : StoreState) (chain : List Commit) (history other : History) (last end : StoreState) → IsLogOf f store before chain history last → IsLogOf f store before chain other end → IsSame history last other end
+  logs_one : (store : Store) (before : StoreState) (chain : List Commit) (history other : History) (last end : StoreState)
+      → IsLogOf f store before chain history last → IsLogOf f store before chain other end → IsSame history last other end
   logs_one store before [] history other last end x y = (x.0 ∙ sym y.0, x.1 ∙ sym y.1)
   logs_one store before (c ∷ chain) history other last end x y =
       let first = step_one f one store before c x.0 y.0 x.1 y.1 x.3 y.3 in
-      let rest = logs_one store x.1 chain x.2 y.2 last end x.4 (subst (λ (s : StoreState). IsLogOf f store s chain y.2 end) (sym first.1) y.4) in
+      let rest = logs_one store x.1 chain x.2 y.2 last end x.4
+      (subst (λ (s : StoreState). IsLogOf f store s chain y.2 end) (sym first.1) y.4) in
       (x.5 ∙ ap (λ (h : History). h ++ x.2) first.0 ∙ ap (λ (h : History). y.0 ++ h) rest.0 ∙ sym y.5, rest.1)
 
   -- The same of two stores of one secret: some text of both tells their suite.
-  of_suites : (store other : Store) → store.secret ≡ other.secret → (before : StoreState) (chain : List Commit) (history more : History) (last end : StoreState) → IsLogOf f store before chain history last → IsLogOf f other before chain more end
+  of_suites : (store other : Store) → store.secret ≡ other.secret
+      → (before : StoreState) (chain : List Commit) (history more : History) (last end : StoreState)
+      → IsLogOf f store before chain history last → IsLogOf f other before chain more end
       → IsSame history last more end × (1 ≤ length chain → store ≡ other)
   of_suites store other secrets before [] history more last end x y = ((x.0 ∙ sym y.0, x.1 ∙ sym y.1), λ some. absurd (omega (arith, some)))
   of_suites store other secrets before (c ∷ chain) history more last end x y =
       let suites : store.suite ≡ other.suite = sym x.3.suite ∙ y.3.suite in
-      let same : store ≡ other = λ i. record { secret = secrets i; suite = suites i } in
-      (logs_one store before (c ∷ chain) history more last end x (subst (λ (s : Store). IsLogOf f s before (c ∷ chain) more end) (sym same) y), λ some. same)
+      let same : store ≡ other = λ i. record { secret = secrets i; suite = suites i } in (
+        logs_one store before (c ∷ chain) history more last end x
+            (subst (λ (s : Store). IsLogOf f s before (c ∷ chain) more end) (sym same) y),
+        λ some. same,
+      )
 
 module _ (written : List WrittenPiece) (key : List ℕ) where
   -- A chain has as many texts as the anchor counts.
-  pub chain_length : (n : ℕ) (mark : List ℕ) (chain : List Commit) → commit_chain written (commit_of key) n mark ≡ Some chain → length chain ≡ n
+  pub chain_length : (n : ℕ) (mark : List ℕ) (chain : List Commit) → commit_chain written (commit_of key) n mark ≡ Some chain
+      → length chain ≡ n
   chain_length zero mark chain ends = sym (ap length (same_Some [] chain ends))
   chain_length (suc n) mark chain ends =
       let a = chain_last written (commit_of key) mark chain n ends in
       omega (arith, ap length a.7, length-append a.2 (a.1 ∷ []), chain_length n a.1.prev.0 a.2 a.6)
 
-pub log_at : (written : List WrittenPiece) (store : Store) (anchor : Anchor) (history : History) (last : StoreState) → IsLog written store anchor history last → last.count ≡ anchor.0
+pub log_at : (written : List WrittenPiece) (store : Store) (anchor : Anchor) (history : History) (last : StoreState)
+    → IsLog written store anchor history last → last.count ≡ anchor.0
 log_at written store anchor history last is =
-    log_count (in_trace written) store is.chain history last is.tells ∙ chain_length written (commit_key_of store.secret) anchor.0 anchor.1 is.chain is.ends
+    log_count (in_trace written) store is.chain history last is.tells
+    ∙ chain_length written (commit_key_of store.secret) anchor.0 anchor.1 is.chain is.ends
 
 -- The log of an anchor is one, whatever the suite.
-pub log_is_one : (written : List WrittenPiece) (store other : Store) → store.secret ≡ other.secret → (anchor : Anchor) (history more : History) (last end : StoreState) → IsLog written store anchor history last → IsLog written other anchor more end
+pub log_is_one : (written : List WrittenPiece) (store other : Store) → store.secret ≡ other.secret
+    → (anchor : Anchor) (history more : History) (last end : StoreState) → IsLog written store anchor history last
+    → IsLog written other anchor more end
     → (history ≡ more) × (last ≡ end) × (1 ≤ anchor.0 → store ≡ other)
 log_is_one written store other secrets anchor history more last end x y =
     let chains : x.chain ≡ y.chain =
-    same_Some x.chain y.chain (sym x.ends ∙ ap (λ (s : List ℕ). commit_chain written (commit_of (commit_key_of s)) anchor.0 anchor.1) secrets ∙ y.ends) in
+    same_Some x.chain y.chain
+    (sym x.ends ∙ ap (λ (s : List ℕ). commit_chain written (commit_of (commit_key_of s)) anchor.0 anchor.1) secrets ∙ y.ends) in
     let both = of_suites (in_trace written) (trace_finds_one written) store other secrets first_state x.chain history more last end x.tells
-    (subst (λ (chain : List Commit). IsLogOf (in_trace written) other first_state chain more end) (sym chains) y.tells) in
-    (both.0.0, both.0.1, λ some. both.1 (omega (arith, some, chain_length written (commit_key_of store.secret) anchor.0 anchor.1 x.chain x.ends)))
+    (subst (λ (chain : List Commit). IsLogOf (in_trace written) other first_state chain more end) (sym chains) y.tells) in (
+      both.0.0,
+      both.0.1,
+      λ some. both.1
+          (omega (arith, some, chain_length written (commit_key_of store.secret) anchor.0 anchor.1 x.chain x.ends)),
+    )
 
 and_first : (a b : Bool) → (a && b) ≡ true → a ≡ true
 and_first true b h = refl
@@ -188,12 +220,22 @@ counted : (n : ℕ) (c : Commit) → follows n c ≡ true → c.count ≡ n + 1
 counted n c next = eqb-true c.count (n + 1) (and_first _ _ next)
 
 -- An anchor that has a log counts nothing, or names a text.
-names_by : (written : List WrittenPiece) (secret : List ℕ) (count : ℕ) (mark : List ℕ) (chain : List Commit) → commit_chain written (commit_of (commit_key_of secret)) count mark ≡ Some chain → (count ≡ 0) ⊎ NamesText written secret (count, mark)
+names_by : (written : List WrittenPiece) (secret : List ℕ) (count : ℕ) (mark : List ℕ) (chain : List Commit)
+    → commit_chain written (commit_of (commit_key_of secret)) count mark ≡ Some chain → (count ≡ 0) ⊎ NamesText written secret (count, mark)
 names_by written secret zero mark chain ends = inl refl
 names_by written secret (suc n) mark chain ends =
     let a = chain_last written (commit_of (commit_key_of secret)) mark chain n ends in
     let was = text_of_digest_is written mark a.0 a.3 in
-    inr (record { text = a.0; commit = a.1; was_written = was.0; accepted = a.4; count = sym (counted n a.1 a.5 ∙ add-one n); mark = sym was.1 })
+    inr (record {
+      text = a.0;
+      commit = a.1;
+      was_written = was.0;
+      accepted = a.4;
+      count = sym
+          (counted n a.1 a.5 ∙ add-one n);
+      mark = sym was.1;
+    })
 
-pub log_names : (written : List WrittenPiece) (store : Store) (anchor : Anchor) (history : History) (last : StoreState) → IsLog written store anchor history last → (anchor.0 ≡ 0) ⊎ NamesText written store.secret anchor
+pub log_names : (written : List WrittenPiece) (store : Store) (anchor : Anchor) (history : History) (last : StoreState)
+    → IsLog written store anchor history last → (anchor.0 ≡ 0) ⊎ NamesText written store.secret anchor
 log_names written store anchor history last is = names_by written store.secret anchor.0 anchor.1 is.chain is.ends

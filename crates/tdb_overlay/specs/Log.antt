@@ -51,7 +51,8 @@ end_of piece = record { 0 = piece.place.0 + piece.length }
 
 -- The text of a commit, after a state of the store, says changes that a commit may make there. Its base and its number of segments
 -- are those of the state. Its records and its list stand where they are placed.
-pub record IsCommitOn (finds : Finds) (store : Store) (before : StoreState) (c : Commit) (changes : List Change) (after : StoreState) : Type 0 where
+pub record IsCommitOn (finds : Finds) (store : Store) (before : StoreState) (c : Commit) (changes : List Change)
+    (after : StoreState) : Type 0 where
   pub kind : c.kind ≡ 1
   pub next : c.count ≡ before.count + 1
   pub base : c.base ≡ before.base
@@ -70,13 +71,16 @@ pub record IsCheckpointOn (finds : Finds) (store : Store) (before : StoreState) 
   pub segments : (before.count ≡ 0) ⊎ (c.segments ≡ before.space.segments)
   pub table : HasTable finds store.secret c
   pub tree : IsTreeState finds store c.root before.chunks
-  pub after_is : after ≡ record { count = c.count; base = c.count; space = table_space table.table (end_of c.first); chunks = before.chunks }
-  pub placed : (piece : Piece) → (piece ≡ c.first) ⊎ IsReached finds store c.root piece → IsPlacedIn after.space piece.place.0 piece.length
+  pub after_is : after
+      ≡ record { count = c.count; base = c.count; space = table_space table.table (end_of c.first); chunks = before.chunks }
+  pub placed : (piece : Piece) → (piece ≡ c.first) ⊎ IsReached finds store c.root piece
+      → IsPlacedIn after.space piece.place.0 piece.length
 
 -- what a text adds to the history: a checkpoint nothing, a commit its count and its changes
 abbrev pub Adds : Finds → Store → StoreState → Commit → History → StoreState → Type 0
 Adds finds store before c added after =
-    (IsCheckpointOn finds store before c after × (added ≡ [])) ⊎ ((changes : List Change) × IsCommitOn finds store before c changes after × (added ≡ (c.count, changes) ∷ []))
+    (IsCheckpointOn finds store before c after × (added ≡ []))
+    ⊎ ((changes : List Change) × IsCommitOn finds store before c changes after × (added ≡ (c.count, changes) ∷ []))
 
 -- The suites that stores are made under. No store is made under a cipher yet.
 abbrev pub IsInUse : Suite → Type 0
@@ -94,7 +98,8 @@ pub record IsStep (finds : Finds) (store : Store) (before : StoreState) (c : Com
 abbrev pub IsLogOf : Finds → Store → StoreState → List Commit → History → StoreState → Type 0
 IsLogOf finds store before [] history last = (history ≡ []) × (last ≡ before)
 IsLogOf finds store before (c ∷ chain) history last =
-    (added : History) × (mid : StoreState) × (later : History) × IsStep finds store before c added mid × IsLogOf finds store mid chain later last × (history ≡ added ++ later)
+    (added : History) × (mid : StoreState) × (later : History) × IsStep finds store before c added mid
+    × IsLogOf finds store mid chain later last × (history ≡ added ++ later)
 
 -- the log of an anchor: of the chain that ends at it
 pub record IsLog (written : List WrittenPiece) (store : Store) (anchor : Anchor) (history : History) (last : StoreState) : Type 0 where

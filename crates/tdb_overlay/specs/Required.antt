@@ -16,7 +16,11 @@ use Rattle.tdb_overlay.specs.Found.{Finds, Store, in_trace, store_of_text}
 
 -- a commit's text as a piece: 256 bytes in the slot of its count
 abbrev pub text_piece : List ℕ → Commit → Piece
-text_piece secret c = record { place = record { 0 = slot_place c.count }; length = 256; digest = record { 0 = sha256 (commit_text (commit_key_of secret) c) } }
+text_piece secret c = record {
+  place = record { 0 = slot_place c.count };
+  length = 256;
+  digest = record { 0 = sha256 (commit_text (commit_key_of secret) c) };
+}
 
 -- one of the records that the list of a commit names
 pub record IsNamedBy (finds : Finds) (secret : List ℕ) (c : Commit) (piece : Piece) : Type 0 where
@@ -31,7 +35,8 @@ pub record IsNamedBy (finds : Finds) (secret : List ℕ) (c : Commit) (piece : P
 -- reaches.
 abbrev pub RestsOn : Finds → List ℕ → Commit → Piece → Type 0
 RestsOn finds secret c piece =
-    (piece ≡ text_piece secret c) ⊎ (piece ≡ c.first) ⊎ IsNamedBy finds secret c piece ⊎ IsReached finds (store_of_text secret c) c.root piece
+    (piece ≡ text_piece secret c) ⊎ (piece ≡ c.first) ⊎ IsNamedBy finds secret c piece
+    ⊎ IsReached finds (store_of_text secret c) c.root piece
 
 -- the count of the last checkpoint, which the last text says
 abbrev pub base_of : List Commit → ℕ

@@ -26,7 +26,8 @@ pub record TextLog (written : List WrittenPiece) (secret text : List ℕ) (c : C
 
 -- So does each text that was written.
 abbrev pub EachText : List WrittenPiece → List ℕ → (StoreState → Type 0) → Type 0
-EachText written secret P = (text : List ℕ) (c : Commit) → WasWritten written text → IsAccepted secret text c → TextLog written secret text c P
+EachText written secret P =
+    (text : List ℕ) (c : Commit) → WasWritten written text → IsAccepted secret text c → TextLog written secret text c P
 
 -- the anchor's count and mark are those of a text that was written
 pub record NamesText (written : List WrittenPiece) (secret : List ℕ) (anchor : Anchor) : Type 0 where
