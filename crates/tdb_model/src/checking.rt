@@ -158,16 +158,14 @@ fn check_free<P: Partitions>(
     requires { check (P.state partitions.now) earlier.now ≡ None }
     ensures { result_err result ≡ refusal earlier.now (apply_all 0 (P.state partitions.now) earlier.now) (Free part rank) }
 {
+    let frozen = has_copy(partitions, earlier, part);
     answer_of(&[
         (is_no_partition(part), CommitError::PartitionNumber),
         (
             !has_partition(partitions, earlier, part),
             CommitError::NoPartition { part },
         ),
-        (
-            has_copy(partitions, earlier, part),
-            CommitError::Frozen { part },
-        ),
+        (frozen, CommitError::Frozen { part }),
         (rank.0 >= RANK_LIMIT, CommitError::RankTooLarge),
     ])
 }
