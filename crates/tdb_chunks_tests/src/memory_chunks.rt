@@ -108,7 +108,10 @@ fn a_copy_keeps_what_its_source_had_and_is_not_written(rt: HostRuntime) -> Resul
     let new = write_of(alloc, 1, 7, b"new")?;
     assert_eq!(rt; commit(&mut chunks, alloc, new), Ok(()));
     let late = write_of(alloc, 3, 7, b"late")?;
-    assert_eq!(rt; commit(&mut chunks, alloc, late), Err(CommitError::Frozen { part: PartId(3) }));
+    assert_eq!(rt;
+        commit(&mut chunks, alloc, late),
+        Err(CommitError::Frozen { part: PartId(3) })
+    );
     for (part, rank, bytes) in [(1, 7, b"new".as_slice()), (3, 7, b"old".as_slice())] {
         let shown = read(&mut chunks, alloc, part, rank)?;
         assert_eq!(rt; shown.as_slice(), bytes);

@@ -1,5 +1,5 @@
 -- A call that is handed on to the store that a value holds, and one that comes behind a part that began nothing.
-use Rattle.std.proofs.Common.{◌≡◌, ◌≢◌, ◌⊎◌, inl, inr, ⊎_elim, ℕ, ◌≤◌, List, [], Result, Ok, Err, IfErr, refl, sym, ap, ◌∙◌, subst, arith}
+use Rattle.std.proofs.Common.{◌≡◌, ◌≢◌, ◌⊎◌, inl, inr, ⊎_elim, ℕ, ◌+◌, ◌≤◌, List, [], Result, Ok, Err, IfErr, refl, sym, ap, ◌∙◌, subst, arith}
 use Rattle.std.specs.Global.{Vec}
 use Rattle.tdb_base.specs.declared.names.PartId.{PartId}
 use Rattle.tdb_base.specs.declared.names.Rank.{Rank}
@@ -267,3 +267,50 @@ pub checkpoint_through : {A C : Type 0} (inner : A → C) (m : Meanings C) → I
     → HasCheckpointed m (inner old) (inner new) result → HasCheckpointed (through inner m) old new result
 checkpoint_through inner m laws old new result h =
     checkpoint_behind inner m laws old new (inner old) (quiet_itself m laws (inner old)) result h
+
+-- a checkpoint that a wrapper makes before a commit
+module _ {C : Type 0} (m : Meanings C) (laws : IsLawful m) (old new : C) where
+  -- with any answer but a fault it began nothing
+  pub quiet_checkpoint : {T : Type 0} (result : Result T save.SaveError) → HasCheckpointed m old new result → result ≢ Err not_saved.Fault
+      → IsQuiet m old new
+  quiet_checkpoint result h sound = record { stays = h.stays; faults = h.faults.none sound; stopped = h.goes_on sound }
+
+  -- where it meets a fault, so does the commit
+  pub commit_at_fault : (changes : List Change) {T U : Type 0} → HasCheckpointed m old new {T = T} (Err not_saved.Fault)
+      → HasCommitted m changes old new {T = U} (Err Fault)
+  commit_at_fault changes h = record {
+    ok = tt;
+    begun = λ is. record {
+      count = m.count old + 1;
+      greater = omega arith;
+      runs = laws.wider old new [] _ h.stays.runs;
+      state = h.stays.state;
+      leaves = λ told s at left is. inl (h.stays.leaves told left is);
+    };
+    refused = λ no. absurd (no refl);
+    faults = record { rose = λ is. h.faults.rose refl; none = λ no. absurd (no refl) };
+    stops = λ is. h.stops refl;
+    goes_on = λ no. absurd (no refl);
+    cause = tt;
+    first = λ is. absurd (cc (h.first is));
+    many = λ goes above. inr (inr refl);
+    checked = λ told s at goes e is. inr (inr refl);
+    counted = λ told s at goes passes end. inr (inr (inr refl));
+  }
+
+  -- and so where it lacks memory
+  pub commit_at_memory : (changes : List Change) {T U : Type 0} → HasCheckpointed m old new {T = T} (Err not_saved.Memory)
+      → HasCommitted m changes old new {T = U} (Err Memory)
+  commit_at_memory changes h = record {
+    ok = tt;
+    begun = λ is. absurd (cc is);
+    refused = λ no. h.stays;
+    faults = record { rose = λ is. absurd (cc is); none = λ no. h.faults.none (λ is. absurd (cc is)) };
+    stops = λ is. absurd (cc is);
+    goes_on = λ no. h.goes_on (λ is. absurd (cc is));
+    cause = tt;
+    first = λ is. absurd (cc (h.first is));
+    many = λ goes above. inr (inl refl);
+    checked = λ told s at goes e is. inr (inl refl);
+    counted = λ told s at goes passes end. inr (inr (inl refl));
+  }
