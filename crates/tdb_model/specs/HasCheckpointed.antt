@@ -28,4 +28,5 @@ pub record HasCheckpointed {C : Type 0} (m : Meanings C) (old new : C) {T : Type
   -- A stopped store makes no checkpoint.
   pub first : m.is_stopped old ≡ true → result ≡ Err Stopped
   -- Behind the greatest count there is none.
-  pub counted : m.is_stopped old ≡ false → count_limit ≤ m.count old → (result ≡ Err CounterEnd) ⊎ ((result ≡ Err Memory) ⊎ (result ≡ Err Fault))
+  pub counted : m.is_stopped old ≡ false → count_limit ≤ m.count old
+      → (result ≡ Err CounterEnd) ⊎ ((result ≡ Err Memory) ⊎ (result ≡ Err Fault))

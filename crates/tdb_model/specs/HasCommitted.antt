@@ -2,7 +2,7 @@
 use Rattle.std.specs.Prelude.{◌≡◌, ◌≢◌, ◌⊎◌, ◌<◌, ◌≤◌, ◌^◌, ℕ, true, false, List, [], ◌∷◌, length, Result, Err, Some, None, IfErr, OnOk, All}
 use Rattle.tdb_model.specs.Apply.{apply_all}
 use Rattle.tdb_model.specs.Check.{check_commit}
-use Rattle.tdb_model.specs.Limits.{count_limit}
+use Rattle.tdb_model.specs.Limits.{change_limit, count_limit}
 use Rattle.tdb_model.specs.Meanings.{Meanings}
 use Rattle.tdb_model.specs.State.{State}
 use Rattle.tdb_model.specs.Stays.{Stays, TellsFaults}
@@ -32,7 +32,8 @@ pub record IsCommitted {C : Type 0} (m : Meanings C) (changes : List Change) (ol
   pub state : m.told new → (s : State) → m.state old s → m.state new (apply_all (m.count new) s changes)
   pub leaves : m.told new → (s : State) → m.state old s → (left : State) → m.left new (m.clock old) left
       → m.left old (m.clock old) left ⊎ (left ≡ apply_all (m.count new) s changes)
-  pub stands : m.told new → (s : State) → m.state old s → (left : State) → m.left new (m.clock new) left → left ≡ apply_all (m.count new) s changes
+  pub stands : m.told new → (s : State) → m.state old s → (left : State) → m.left new (m.clock new) left
+      → left ≡ apply_all (m.count new) s changes
 
 -- The commit met a fault, and may stand or not after a stop. It is in no state that is answered from.
 pub record IsBegun {C : Type 0} (m : Meanings C) (changes : List Change) (old new : C) : Type 0 where
@@ -51,7 +52,7 @@ IsRefusedBy m changes old new e = m.told new → (s : State) → m.state old s �
 -- Why a commit was refused. Want of memory is free, and of faults TellsFaults says the cause.
 abbrev pub CommitCause : {C : Type 0} → Meanings C → List Change → C → C → CommitError → Type 0
 CommitCause m changes old new Stopped = m.is_stopped old ≡ true
-CommitCause m changes old new (TooManyChanges number) = IsRefusedBy m changes old new (TooManyChanges number)
+CommitCause m changes old new (TooManyChanges number) = (number ≡ length changes) × (change_limit < length changes)
 CommitCause m changes old new PartitionNumber = IsRefusedBy m changes old new PartitionNumber
 CommitCause m changes old new (NoPartition part) = IsRefusedBy m changes old new (NoPartition part)
 CommitCause m changes old new (PartitionExists part) = IsRefusedBy m changes old new (PartitionExists part)
@@ -65,7 +66,8 @@ CommitCause m changes old new (NoRoom room) = m.refuses new changes (NoRoom room
 CommitCause m changes old new Memory = Unit {0}
 CommitCause m changes old new Fault = Unit {0}
 
-pub record HasCommitted {C : Type 0} (m : Meanings C) (changes : List Change) (old new : C) {T : Type 0} (result : Result T CommitError) : Type 0 where
+pub record HasCommitted {C : Type 0} (m : Meanings C) (changes : List Change) (old new : C) {T : Type 0}
+    (result : Result T CommitError) : Type 0 where
   pub ok : OnOk result (IsCommitted m changes old new)
   pub begun : result ≡ Err Fault → IsBegun m changes old new
   -- Any other refusal leaves all, want of memory too.
@@ -77,9 +79,13 @@ pub record HasCommitted {C : Type 0} (m : Meanings C) (changes : List Change) (o
   pub cause : IfErr result (CommitCause m changes old new)
   -- A stopped store commits nothing.
   pub first : m.is_stopped old ≡ true → result ≡ Err Stopped
+  -- Too many changes are refused, whatever the state.
+  pub many : m.is_stopped old ≡ false → change_limit < length changes
+      → (result ≡ Err (TooManyChanges (length changes))) ⊎ ((result ≡ Err Memory) ⊎ (result ≡ Err Fault))
   -- Changes that are refused get that answer.
   pub checked : m.told new → (s : State) → m.state old s → m.is_stopped old ≡ false → (e : CommitError) → check_commit s changes ≡ Some e
       → (result ≡ Err e) ⊎ ((result ≡ Err Memory) ⊎ (result ≡ Err Fault))
   -- Behind the greatest count there is none.
-  pub counted : m.told new → (s : State) → m.state old s → m.is_stopped old ≡ false → check_commit s changes ≡ None → count_limit ≤ m.count old
+  pub counted : m.told new → (s : State) → m.state old s → m.is_stopped old ≡ false → check_commit s changes ≡ None
+      → count_limit ≤ m.count old
       → (result ≡ Err CounterEnd) ⊎ ((result ≡ Err RingFull) ⊎ ((result ≡ Err Memory) ⊎ (result ≡ Err Fault)))

@@ -43,13 +43,15 @@ abbrev pub RanksCause : {C : Type 0} → Meanings C → PartId → PartId → C 
 RanksCause m a b old new Stopped = m.is_stopped old ≡ true
 RanksCause m a b old new NoPartition = m.told new → (s : State) → m.state old s → IsOneMissing s a b
 RanksCause m a b old new NoChunk = ⊥
-RanksCause m a b old new (Tampered damage) = m.told new → (part : PartId) × IsAsked a b part × m.damage_seen old new damage (OfPartition part)
+RanksCause m a b old new (Tampered damage) = m.told new
+    → (part : PartId) × IsAsked a b part × m.damage_seen old new damage (OfPartition part)
 RanksCause m a b old new (Form place) = m.told new → m.malformed_seen old new place
 RanksCause m a b old new Fault = Unit {0}
 RanksCause m a b old new Memory = Unit {0}
 
 -- A call that goes over the ranks of one or two partitions. Where it is Ok they are as IsAnswer says.
-pub record GoesOver {C : Type 0} (m : Meanings C) (a b : PartId) {A : Type 0} (IsAnswer : State → A → Type 0) (old new : C) (result : Result A ReadError) : Type 0 where
+pub record GoesOver {C : Type 0} (m : Meanings C) (a b : PartId) {A : Type 0} (IsAnswer : State → A → Type 0) (old new : C)
+    (result : Result A ReadError) : Type 0 where
   pub stays : Stays m old new
   pub faults : TellsFaults Fault (m.faults old) (m.faults new) result
   pub stopped : m.is_stopped new ≡ m.is_stopped old

@@ -18,13 +18,15 @@ use Rattle.tdb_model.specs.declared.error.ReadError.TheVariants.{Stopped, NoPart
 abbrev pub ReadCause : {C : Type 0} → Meanings C → PartId → Rank → C → C → ReadError → Type 0
 ReadCause m part rank old new Stopped = m.is_stopped old ≡ true
 ReadCause m part rank old new NoPartition = m.told new → (s : State) → m.state old s → get s part.0 ≡ None
-ReadCause m part rank old new NoChunk = m.told new → (s : State) → m.state old s → (is_there s part ≡ true) × (chunk_at s part.0 rank.0 ≡ None)
+ReadCause m part rank old new NoChunk = m.told new → (s : State) → m.state old s
+    → (is_there s part ≡ true) × (chunk_at s part.0 rank.0 ≡ None)
 ReadCause m part rank old new (Tampered damage) = m.told new → m.damage_seen old new damage (OfChunk part rank)
 ReadCause m part rank old new (Form place) = m.told new → m.malformed_seen old new place
 ReadCause m part rank old new Fault = Unit {0}
 ReadCause m part rank old new Memory = Unit {0}
 
-pub record HasRead {C : Type 0} (m : Meanings C) (part : PartId) (rank : Rank) (old new : C) (result : Result (Vec ℕ) ReadError) : Type 0 where
+pub record HasRead {C : Type 0} (m : Meanings C) (part : PartId) (rank : Rank) (old new : C)
+    (result : Result (Vec ℕ) ReadError) : Type 0 where
   pub stays : Stays m old new
   pub faults : TellsFaults Fault (m.faults old) (m.faults new) result
   -- A fault that a reading call meets doesn't stop the store.

@@ -27,7 +27,8 @@ pub record RanInMemory (old : InMemory) (surely : History) (new : InMemory) : Ty
   pub state : new.state ≡ replay old.state surely
   pub count : old.count ≤ new.count
 
--- Its state stands in no device: there is no moment between its calls, and a stop leaves the state that it has. It never stops, meets no fault, sees no damage, and verifies nothing.
+-- Its state stands in no device: there is no moment between its calls, and a stop leaves the state that it has.
+-- It never stops, meets no fault, sees no damage, and verifies nothing.
 -- It needs no checkpoint, so that it always stands at its base, and has room without end.
 abbrev pub memory_means : Meanings InMemory
 memory_means = record {

@@ -17,6 +17,7 @@ mod memory_chunks;
 mod tests;
 
 pub use change::{CHANGE_LIMIT, CHUNK_LIMIT, Change, PARTITION_LIMIT, PartInfo, RANK_LIMIT, Side};
+pub use checking::{Partitions, check_each};
 pub use chunks::Chunks;
 pub use error::{CommitError, ReadError, SaveError};
 pub use laws::{

@@ -5,11 +5,12 @@ ghost use Rattle.std.specs.Option.{option_map, option_copied};
 ghost use Rattle.tdb_model.specs.Apply.{with_chunk, without_chunk, made, copied, with_partition, apply, apply_all};
 ghost use Rattle.tdb_model.specs.Check.{check};
 ghost use Rattle.tdb_model.specs.HasListed.{infos_of};
-ghost use Rattle.tdb_model.specs.Lookup.{parent_at, info_of, chunk_at};
+ghost use Rattle.tdb_model.specs.Lookup.{info_of, chunk_at};
 ghost use Rattle.tdb_model.specs.Memory.{partition_of, IsRankInRange};
 ghost use Rattle.tdb_model.specs.State.{no_partitions};
 
 use crate::change::{Change, PartInfo};
+use crate::checking::Partitions;
 use std::alloc::{AllocError, Global};
 use std::collections::BTreeMap;
 use std::marker::Model;
@@ -121,16 +122,6 @@ impl MemoryState {
     {
         MemoryState {
             partitions: BTreeMap::new(alloc),
-        }
-    }
-
-    /// The parent of a partition, 0 where it was made, and none where it isn't there.
-    pub(crate) fn parent(&self, part: PartId) -> Option<u32>
-        ensures { result ≡ parent_at self.now part.0 }
-    {
-        match self.partitions.get(&part.0) {
-            Some(partition) => Some(partition.parent),
-            None => None,
         }
     }
 
@@ -277,5 +268,16 @@ impl MemoryState {
         ensures { self.new ≡ map.remove self.old part }
     {
         let _dropped = self.partitions.remove(&part);
+    }
+}
+
+impl Partitions for MemoryState {
+    ghost state = { λ s. s };
+
+    fn parent(&self, part: PartId) -> Option<u32> {
+        match self.partitions.get(&part.0) {
+            Some(partition) => Some(partition.parent),
+            None => None,
+        }
     }
 }
