@@ -8,9 +8,6 @@ use Rattle.tdb_class.specs.FieldKind.{kind_of_field}
 use Rattle.tdb_class.specs.TextBytes.{text_bytes}
 use Rattle.tdb_class.proofs.SameText.{same_text}
 use Rattle.tdb_class.specs.declared.field.Field.{Field}
-use Rattle.tdb_class.specs.declared.field.Field.TheVariants as field
-use Rattle.tdb_class.specs.declared.field.FieldKind.{FieldKind}
-use Rattle.tdb_class.specs.declared.field.FieldKind.TheVariants as kind
 use Rattle.tdb_apps.specs.Objects.{AccountFields, IsAccount, LicenceFields, IsLicence}
 use Rattle.tdb_apps.specs.Keys.{app_key, app_field_kind}
 use Rattle.tdb_apps.specs.Pickle.{app_class, app_pickle, body_bytes, IsApp, ReadsAs, IsNewest}

@@ -1,10 +1,9 @@
 -- The order of fields is a total one.
 use Rattle.std.proofs.Common.{◌≡◌, refl}
-use Rattle.std.specs.declared.cmp.Ordering.{Ordering}
-use Rattle.std.specs.declared.cmp.Ordering.TheVariants.{Less, Equal, Greater}
-use Rattle.std.specs.Ordering.{nat_cmp, ordering_reverse}
+use Rattle.std.specs.declared.cmp.Ordering.TheVariants.{Less, Equal}
+use Rattle.std.specs.Ordering.{ordering_reverse}
 use Rattle.std.specs.Cmp.{IsTotalOrder}
-use Rattle.std.specs.Cmp.Lexicographic.{slice_cmp, nat_list_cmp_total}
+use Rattle.std.specs.Cmp.Lexicographic.{nat_list_cmp_total}
 use Rattle.std.proofs.lemmas.Cmp.{nat_cmp_total}
 use Rattle.tdb_class.specs.declared.field.Field.{Field}
 use Rattle.tdb_class.specs.declared.field.Field.TheVariants.{Num, Text}

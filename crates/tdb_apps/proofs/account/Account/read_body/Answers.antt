@@ -1,4 +1,4 @@
-use Rattle.std.proofs.Common.{◌≡◌, ◌++◌, sym, ◌∙◌, subst, arith}
+use Rattle.std.proofs.Common.{sym, ◌∙◌, subst, arith}
 use Rattle.std.specs.Int.{w64, to_be_bytes}
 use Rattle.tdb_class.specs.Word.{IsWord}
 use Rattle.tdb_class.proofs.SameText.{same_text}

@@ -1,4 +1,4 @@
-use Rattle.std.proofs.Common.{◌≡◌, ◌++◌, ◌≤◌, [], ℕ, List, sym, ◌∙◌, subst, arith, length, ap, append_assoc}
+use Rattle.std.proofs.Common.{◌++◌, [], ℕ, List, sym, ◌∙◌, subst, arith, append_assoc}
 use Rattle.std.specs.Int.{w32, to_be_bytes}
 use Rattle.tdb_base.proofs.SameFields.{same_u32}
 use Rattle.tdb_class.specs.TextBytes.{text_bytes}
