@@ -1,3 +1,4 @@
 pub mod ClaimOrder
-pub mod Granting
 pub mod Conflicts
+pub mod Exclusion
+pub mod Granting

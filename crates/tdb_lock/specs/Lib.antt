@@ -1,2 +1,3 @@
-pub mod HeldLocks
+pub mod AreExclusive
 pub mod Conflict
+pub mod HeldLocks

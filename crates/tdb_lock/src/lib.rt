@@ -2,12 +2,14 @@
 //!
 //! It stands on tdb_base for the numbers, and on `thiserror` for the messages of its error. It carries
 //! one promise: a lock is refused exactly where another transaction's lock is in the way, by the least
-//! such transaction, and a transaction's end gives back all of its locks. A change of `specs/` changes
-//! which interleavings of transactions there are.
+//! such transaction, and a transaction's end gives back all of its locks. So what one transaction has
+//! locked exclusively no other has locked. A change of `specs/` changes which interleavings there are.
 #![tactic(auto)]
 
 mod error;
+mod laws;
 mod table;
 
 pub use error::LockError;
+pub use laws::locks_stay_exclusive;
 pub use table::LockTable;
