@@ -186,7 +186,7 @@ module _ (o : Outside) (was : memory.Store) (entries : List Entry) (before : Lis
           placed = (with_room o was not_full counts_on last known changes prepared.room pass _ space placed_at).0;
         } in
         let step : IsStep (in_pieces (before ++ new ∷ [])) (store_of was) last d ((last.count + 1, changes) ∷ []) (committed last changes space) =
-        record { suite = refl; segments = refl; adds = inr (changes, on, ap (λ (n : ℕ). (n, changes) ∷ []) (sym count)) } in
+        record { used = tt; suite = refl; segments = refl; adds = inr (changes, on, ap (λ (n : ℕ). (n, changes) ∷ []) (sym count)) } in
         subst (λ (l : List Placed). IsStep (in_pieces l) (store_of was) last c ((last.count + 1, changes) ∷ []) (committed last changes space)) (sym next.pieces_are)
         (subst (λ (k : Commit). IsStep (in_pieces (before ++ new ∷ [])) (store_of was) last k ((last.count + 1, changes) ∷ []) (committed last changes space)) (sym next.commit) step)
 

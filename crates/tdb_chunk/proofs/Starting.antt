@@ -150,7 +150,7 @@ first_steps o secret head segments c ps space s zero_count start before from is 
       formatted = refl;
     } in
     let step : IsStep (in_pieces ps) store from c [] (formatted_state store) =
-    record { suite = ap (λ (k : Commit). k.suite) s.commit; segments = ap (λ (k : Commit). k.segments) s.commit; adds = inl (checkpoint, refl) } in
+    record { used = tt; suite = ap (λ (k : Commit). k.suite) s.commit; segments = ap (λ (k : Commit). k.segments) s.commit; adds = inl (checkpoint, refl) } in
     ([], formatted_state store, (refl, none, refl), step)
 
 -- a fresh space is one

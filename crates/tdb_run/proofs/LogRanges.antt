@@ -11,10 +11,9 @@ use Rattle.tdb_model.specs.Apply.{History}
 use Rattle.tdb_model.specs.Check.{check}
 use Rattle.tdb_model.specs.InRange.{IsInRange}
 use Rattle.tdb_model.proofs.RangeLemmas.{apply_all_in_range}
-use Rattle.tdb_seal.specs.SealedRecord.{IsInUse}
 use Rattle.tdb_seg.specs.SegmentSpace.{SegmentSpace, fits, place_in, placed, next_place, then_fit, then_place, with_bytes}
 use Rattle.tdb_overlay.specs.Found.{Finds, Store}
-use Rattle.tdb_overlay.specs.Log.{Adds, IsLogOf, IsStep}
+use Rattle.tdb_overlay.specs.Log.{Adds, IsInUse, IsLogOf, IsStep}
 use Rattle.tdb_overlay.specs.StoreState.{StoreState, commit_fits, commit_lengths, kept_free}
 use Rattle.tdb_overlay.proofs.LogLaws.{allows}
 
@@ -72,7 +71,7 @@ module _ (finds : Finds) (store : Store) where
         ap (λ (s : StoreState). s.space.segments) made.after_is ∙ commit_keeps before same commit.0 made.places made.space made.fits
 
     step_plain : IsStep finds store before c added after → store.suite ≡ Plain
-    step_plain s = plain_in_use store.suite (subst IsInUse s.suite (⊎_elim (λ checkpoint. checkpoint.0.table.opened.suite) (λ commit. commit.1.list.opened.suite) s.adds))
+    step_plain s = plain_in_use store.suite s.used
 
   pub log_in_range : (before : StoreState) (chain : List Commit) (history : History) (last : StoreState) → IsInRange before.chunks → IsLogOf finds store before chain history last → IsInRange last.chunks
   log_in_range before [] history last in_range is = subst IsInRange (sym (ap (λ (s : StoreState). s.chunks) is.1)) in_range
