@@ -8,8 +8,8 @@ use Rattle.tdb_chunk.specs.Names.{list_name}
 use Rattle.tdb_chunk.proofs.Sealing.{sealed_as}
 use Rattle.tdb_chunk.proofs.records.seal_list.Goals as goal
 
-pub seal_record-requires-clause-size : goal.seal_record-requires-clause-size
-seal_record-requires-clause-size c =
+pub seal_record-requires : goal.seal_record-requires
+seal_record-requires c =
     omega (arith, ap (λ (l : List ℕ). length l) (c.deref.ensures.value ∙ c.in_ok-list.ensures), length-list_bytes c.args.entries.now c.requires.values, c.requires.list.most)
 
 pub returns-clause-sealed : goal.returns-clause-sealed

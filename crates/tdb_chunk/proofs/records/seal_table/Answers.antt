@@ -8,8 +8,8 @@ use Rattle.tdb_chunk.specs.Names.{table_name}
 use Rattle.tdb_chunk.proofs.Sealing.{sealed_as}
 use Rattle.tdb_chunk.proofs.records.seal_table.Goals as goal
 
-pub seal_record-requires-clause-size : goal.seal_record-requires-clause-size
-seal_record-requires-clause-size c =
+pub seal_record-requires : goal.seal_record-requires
+seal_record-requires c =
     omega (arith, ap (λ (l : List ℕ). length l) (c.deref.ensures.value ∙ c.in_ok-table.ensures), length-table_bytes c.args.table.now c.requires.value)
 
 pub returns-clause-sealed : goal.returns-clause-sealed
