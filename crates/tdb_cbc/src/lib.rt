@@ -12,5 +12,5 @@ mod padding;
 #[cfg(test)]
 mod tests;
 
-pub use cbc::{seal, unseal};
+pub use cbc::{push_sealed, seal, unseal};
 pub use error::CbcError;
