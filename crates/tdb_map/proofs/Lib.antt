@@ -1,0 +1,4 @@
+pub mod NumberLemmas
+pub mod ShownLemmas
+pub mod TreeLemmas
+pub mod WalkLemmas

@@ -1,0 +1,7 @@
+pub mod Shown
+pub mod PieceCause
+pub mod Nodes
+pub mod Tree
+pub mod TreeCause
+pub mod Walk
+pub mod Edits
