@@ -21,7 +21,7 @@ same_test false true f g = g refl
 pub number_above : (rank height : ℕ) → rank / 64 ^ suc height ≡ rank / 64 ^ height / 64
 number_above rank height = ap (λ (w : ℕ). rank / w) (pow-suc 64 height) ∙ sym (div-div-eq-div-mul rank (64 ^ height) 64)
 
-within_of : (q from to : ℕ) → (nat_le from q && nat_lt q to) ≡ true → (from ≤ q) × (q < to)
+pub within_of : (q from to : ℕ) → (nat_le from q && nat_lt q to) ≡ true → (from ≤ q) × (q < to)
 within_of q from to h = (grind (arith, nat_tests), grind (arith, nat_tests))
 
 of_within : (q from to : ℕ) → from ≤ q → q < to → (nat_le from q && nat_lt q to) ≡ true

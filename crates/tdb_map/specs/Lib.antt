@@ -5,3 +5,7 @@ pub mod Tree
 pub mod TreeCause
 pub mod Walk
 pub mod Edits
+pub mod Laid
+pub mod Rewritten
+pub mod Updated
+pub mod UpdateCause

@@ -6,13 +6,19 @@
 //! writes its maps by it, so a digit or a name taken wrongly would lose chunks.
 #![tactic(auto)]
 
+mod edits;
+mod layer;
 mod looking;
 mod nodes;
 mod pieces;
+mod storing;
 mod tree;
+mod updating;
 mod walking;
 
+pub use layer::{Layer, UpdateError};
 pub use looking::lookup;
 pub use pieces::{PieceError, Pieces};
 pub use tree::{MAP_HEIGHT, Tree};
+pub use updating::update;
 pub use walking::walk;

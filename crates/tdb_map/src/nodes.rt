@@ -61,3 +61,28 @@ pub(crate) fn fetch_node<P: Pieces>(
         Err(NodeError::Memory) => Err(PieceError::Memory),
     }
 }
+
+/// The node of a root.
+pub(crate) fn node_of<P: Pieces>(
+    alloc: Global,
+    pieces: &mut P,
+    tree: &Tree,
+    level: u32,
+    number: u32,
+    root: Option<Piece>,
+) -> Result<Box<Node>, PieceError>
+    requires level { level ≤ 4 }
+    requires number { (number + 1) * 64 ^ suc level ≤ 1073741824 }
+    ensures node { IfOk result (λ node. HasNode (nodes_of (P.texts pieces.new) tree.now) level number root node.value.entries) }
+    ensures count { IfOk result (λ node. length node.value.entries ≡ 64) }
+    ensures each { IfOk result (λ node. (k : ℕ) → IsEntry (entry node.value.entries k)) }
+    ensures cause { IfErr result (λ error. (error ≡ Memory) ⊎ ((piece : APiece) × (root ≡ Some piece)
+        × IsPieceCause (P.shown pieces.old) (P.shown pieces.new) (IsUnfit (P.misfits pieces.new) tree.now level number piece) piece error)) }
+    ensures grows { Grows (P.texts pieces.old) (P.texts pieces.new) }
+    ensures shows { Shows (P.shown pieces.old) (P.shown pieces.new) 1 }
+{
+    match root {
+        Some(piece) => fetch_node(alloc, pieces, tree, level, number, &piece),
+        None => Ok(Box::new(alloc, Node::empty())?),
+    }
+}
