@@ -25,4 +25,5 @@ is_within height from to rank = nat_le from (rank / 64 ^ height) && nat_lt (rank
 -- how many edits are in these trees
 abbrev pub edits_in : ℕ → ℕ → ℕ → Edits → ℕ
 edits_in height from to [] = 0
-edits_in height from to (edit ∷ edits) = cond (is_within height from to edit.0) (1 + edits_in height from to edits) (edits_in height from to edits)
+edits_in height from to (edit ∷ edits) = cond (is_within height from to edit.0) (1 + edits_in height from to edits)
+    (edits_in height from to edits)

@@ -23,7 +23,8 @@ pub record Lays (old new : List LaidRecord) (most : ℕ) : Type 0 where
 
 -- the record of the node was laid since
 abbrev pub laid_nodes : Tree → List LaidRecord → List LaidRecord → Nodes
-laid_nodes tree old new level number piece node = (bytes : List ℕ) × IsLaidSince old new piece bytes × IsNodeRecord tree level number node bytes
+laid_nodes tree old new level number piece node = (bytes : List ℕ) × IsLaidSince old new piece bytes
+    × IsNodeRecord tree level number node bytes
 
 -- texts that are known, or are records that were laid
 abbrev pub with_laid : Texts → List LaidRecord → Texts

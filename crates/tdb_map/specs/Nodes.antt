@@ -37,7 +37,8 @@ nodes_of texts tree level number piece node = (bytes : List ℕ) × texts piece.
 
 -- bytes that are no node's record, or whose piece doesn't fit the others
 abbrev pub IsUnfit : (Piece → List ℕ → Type 0) → Tree → ℕ → ℕ → Piece → List ℕ → Type 0
-IsUnfit misfits tree level number piece bytes = misfits piece bytes ⊎ ((node : List (Option Piece)) → IsNodeRecord tree level number node bytes → ⊥)
+IsUnfit misfits tree level number piece bytes = misfits piece bytes
+    ⊎ ((node : List (Option Piece)) → IsNodeRecord tree level number node bytes → ⊥)
 
 -- a digest leads to one text
 pub record IsOneText (texts : Texts) : Type 0 where
@@ -45,4 +46,5 @@ pub record IsOneText (texts : Texts) : Type 0 where
 
 -- a piece stands for the entries of one node
 pub record IsOneNode (nodes : Nodes) : Type 0 where
-  pub each : (level number : ℕ) (piece : Piece) (one other : List (Option Piece)) → nodes level number piece one → nodes level number piece other → one ≡ other
+  pub each : (level number : ℕ) (piece : Piece) (one other : List (Option Piece)) → nodes level number piece one
+      → nodes level number piece other → one ≡ other

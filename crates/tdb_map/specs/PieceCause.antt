@@ -13,6 +13,7 @@ IsPieceCause old new unfit piece (Tampered damage) =
     (bytes : List ℕ) × (damage.place ≡ piece.place) × (damage.expected ≡ piece.digest) × (damage.found.0 ≡ sha256 bytes)
     × (sha256 bytes ≡ piece.digest.0 → ⊥) × (IsTrue new.tells → IsShownLast new piece bytes)
 IsPieceCause old new unfit piece (Form place) =
-    (bytes : List ℕ) × (place ≡ piece.place) × (sha256 bytes ≡ piece.digest.0) × unfit bytes × (IsTrue new.tells → IsShownLast new piece bytes)
+    (bytes : List ℕ) × (place ≡ piece.place) × (sha256 bytes ≡ piece.digest.0) × unfit bytes
+    × (IsTrue new.tells → IsShownLast new piece bytes)
 IsPieceCause old new unfit piece Fault = Rose old.faults new.faults
 IsPieceCause old new unfit piece Memory = Unit {0}

@@ -19,5 +19,6 @@ abbrev pub Rewritten : Nodes → Nodes → Edits → ℕ → ℕ → Option Piec
 Rewritten nodes lays edits zero number old new = new ≡ edited edits number old
 Rewritten nodes lays edits (suc height) number old new =
     ((new ≡ old) × (edits_in (suc height) number (number + 1) edits ≡ 0))
-    ⊎ ((before : List (Option Piece)) × (after : List (Option Piece)) × HasNode nodes height number old before × Becomes lays height number old before after new
+    ⊎ ((before : List (Option Piece)) × (after : List (Option Piece)) × HasNode nodes height number old before
+    × Becomes lays height number old before after new
     × ((d : ℕ) → d < 64 → Rewritten nodes lays edits height (number * 64 + d) (entry before d) (entry after d)))

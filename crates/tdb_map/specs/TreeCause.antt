@@ -10,7 +10,8 @@ use Rattle.tdb_map.specs.Nodes.{Nodes, IsUnfit}
 use Rattle.tdb_map.specs.Tree.{IsOnWay}
 
 -- A node on the way to a rank that was wanted couldn't be had. The tree that was gone through has a height and a number.
-pub record IsBlocked (old new : Shown) (misfits : Piece → List ℕ → Type 0) (nodes : Nodes) (tree : Tree) (wanted : ℕ → Type 0) (height number : ℕ) (root : Option Piece) (error : PieceError) : Type 0 where
+pub record IsBlocked (old new : Shown) (misfits : Piece → List ℕ → Type 0) (nodes : Nodes) (tree : Tree) (wanted : ℕ → Type 0)
+    (height number : ℕ) (root : Option Piece) (error : PieceError) : Type 0 where
   pub rank : ℕ
   pub is_wanted : wanted rank
   pub within : rank / 64 ^ height ≡ number
@@ -20,6 +21,7 @@ pub record IsBlocked (old new : Shown) (misfits : Piece → List ℕ → Type 0)
   pub cause : IsPieceCause old new (IsUnfit misfits tree level (rank / 64 ^ suc level) piece) piece error
 
 -- there was no memory, or a node couldn't be had
-abbrev pub IsTreeCause : Shown → Shown → (Piece → List ℕ → Type 0) → Nodes → Tree → (ℕ → Type 0) → ℕ → ℕ → Option Piece → PieceError → Type 0
+abbrev pub IsTreeCause : Shown → Shown → (Piece → List ℕ → Type 0) → Nodes → Tree → (ℕ → Type 0) → ℕ → ℕ → Option Piece
+    → PieceError → Type 0
 IsTreeCause old new misfits nodes tree wanted height number root error =
     (error ≡ Memory) ⊎ IsBlocked old new misfits nodes tree wanted height number root error

@@ -29,9 +29,11 @@ pub record HasWalked (nodes : Nodes) (height number : ℕ) (root : Option Piece)
   pub is : new ≡ old ++ entries
   pub walk : IsWalk nodes height number root entries
 
--- The list is the old one with the entries of the first trees below a node behind it. The trees have numbers from one up to one before another.
+-- The list is the old one with the entries of the first trees below a node behind it.
+-- The trees have numbers from one up to one before another.
 pub record HasWalkedSome (nodes : Nodes) (height from to : ℕ) (node : List (Option Piece)) (old new : Listed) : Type 0 where
   pub entries : Listed
   pub is : new ≡ old ++ entries
   pub ascends : Ascends (from * 64 ^ height) (to * 64 ^ height) entries
-  pub at : (rank : ℕ) → from ≤ rank / 64 ^ height → rank / 64 ^ height < to → IsAt nodes height (rank / 64 ^ height) (entry node (digit height rank)) rank (listed entries rank)
+  pub at : (rank : ℕ) → from ≤ rank / 64 ^ height → rank / 64 ^ height < to
+      → IsAt nodes height (rank / 64 ^ height) (entry node (digit height rank)) rank (listed entries rank)

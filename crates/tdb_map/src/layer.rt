@@ -63,5 +63,6 @@ pub trait Layer {
         ensures digest { IfOk result (λ piece. piece.digest.0 ≡ sha256 sealed.items) }
         ensures lies { IfOk result LiesInOneSegment }
         ensures refused { OnErr result ((laid self.new ≡ laid self.old) × (space self.new ≡ space self.old)) }
-        ensures cause { IfErr result (IsUpdateCause (λ refusal. place_in (space self.old) (length sealed.items) 0 ≡ Err refusal) (λ _. ⊥)) };
+        ensures cause { IfErr result (IsUpdateCause (λ refusal. place_in (space self.old) (length sealed.items) 0 ≡ Err refusal)
+            (λ _. ⊥)) };
 }

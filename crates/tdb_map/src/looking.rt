@@ -25,7 +25,8 @@ fn leaf_below<P: Pieces>(
     requires number { (number + 1) * 64 ^ height ≤ 1073741824 }
     requires rank { rank / 64 ^ height ≡ number }
     ensures at { IfOk result (λ leaf. IsAt (nodes_of (P.texts pieces.new) tree.now) height number root rank leaf) }
-    ensures cause { IfErr result (IsTreeCause (P.shown pieces.old) (P.shown pieces.new) (P.misfits pieces.new) (nodes_of (P.texts pieces.new) tree.now) tree.now (λ r. r ≡ rank) height number root) }
+    ensures cause { IfErr result (IsTreeCause (P.shown pieces.old) (P.shown pieces.new) (P.misfits pieces.new)
+        (nodes_of (P.texts pieces.new) tree.now) tree.now (λ r. r ≡ rank) height number root) }
     ensures grows { Grows (P.texts pieces.old) (P.texts pieces.new) }
     ensures shows { Shows (P.shown pieces.old) (P.shown pieces.new) height }
 {
@@ -50,7 +51,8 @@ pub fn lookup<P: Pieces>(
     rank: Rank,
 ) -> Result<Option<Piece>, PieceError>
     ensures at { IfOk result (λ leaf. HasAt (nodes_of (P.texts pieces.new) tree.now) MAP_HEIGHT tree.now.root rank.0 leaf) }
-    ensures cause { IfErr result (IsTreeCause (P.shown pieces.old) (P.shown pieces.new) (P.misfits pieces.new) (nodes_of (P.texts pieces.new) tree.now) tree.now (λ r. r ≡ rank.0) MAP_HEIGHT 0 tree.now.root) }
+    ensures cause { IfErr result (IsTreeCause (P.shown pieces.old) (P.shown pieces.new) (P.misfits pieces.new)
+        (nodes_of (P.texts pieces.new) tree.now) tree.now (λ r. r ≡ rank.0) MAP_HEIGHT 0 tree.now.root) }
     ensures grows { Grows (P.texts pieces.old) (P.texts pieces.new) }
     ensures shows { Shows (P.shown pieces.old) (P.shown pieces.new) MAP_HEIGHT }
 {

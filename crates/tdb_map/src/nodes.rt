@@ -50,7 +50,8 @@ pub(crate) fn fetch_node<P: Pieces>(
     ensures node { IfOk result (λ node. nodes_of (P.texts pieces.new) tree.now level number piece.now node.value.entries) }
     ensures count { IfOk result (λ node. length node.value.entries ≡ 64) }
     ensures each { IfOk result (λ node. (k : ℕ) → IsEntry (entry node.value.entries k)) }
-    ensures cause { IfErr result (IsPieceCause (P.shown pieces.old) (P.shown pieces.new) (IsUnfit (P.misfits pieces.new) tree.now level number piece.now) piece.now) }
+    ensures cause { IfErr result (IsPieceCause (P.shown pieces.old) (P.shown pieces.new)
+        (IsUnfit (P.misfits pieces.new) tree.now level number piece.now) piece.now) }
     ensures grows { Grows (P.texts pieces.old) (P.texts pieces.new) }
     ensures shows { Shows (P.shown pieces.old) (P.shown pieces.new) 1 }
 {
@@ -77,7 +78,8 @@ pub(crate) fn node_of<P: Pieces>(
     ensures count { IfOk result (λ node. length node.value.entries ≡ 64) }
     ensures each { IfOk result (λ node. (k : ℕ) → IsEntry (entry node.value.entries k)) }
     ensures cause { IfErr result (λ error. (error ≡ Memory) ⊎ ((piece : APiece) × (root ≡ Some piece)
-        × IsPieceCause (P.shown pieces.old) (P.shown pieces.new) (IsUnfit (P.misfits pieces.new) tree.now level number piece) piece error)) }
+        × IsPieceCause (P.shown pieces.old) (P.shown pieces.new)
+        (IsUnfit (P.misfits pieces.new) tree.now level number piece) piece error)) }
     ensures grows { Grows (P.texts pieces.old) (P.texts pieces.new) }
     ensures shows { Shows (P.shown pieces.old) (P.shown pieces.new) 1 }
 {

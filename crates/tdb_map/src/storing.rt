@@ -78,7 +78,8 @@ pub(crate) fn store<L: Layer>(
     ensures lays { Lays (L.laid layer.old) (L.laid layer.new) 1 }
     ensures cause { IfErr result (IsUpdateCause (IsFull (L.space layer.new)) (λ _. ⊥)) }
     ensures lies { IfOk result (λ then. IsEntry root → IsEntry then) }
-    ensures becomes { IfOk result (Becomes (laid_nodes tree.now (L.laid layer.old) (L.laid layer.new)) level number root before.now.entries after.now.entries) }
+    ensures becomes { IfOk result (Becomes (laid_nodes tree.now (L.laid layer.old) (L.laid layer.new)) level number root
+        before.now.entries after.now.entries) }
 {
     if is_same(&after.entries, &before.entries) {
         return Ok(root);

@@ -35,11 +35,14 @@ fn rewrite<P: Pieces, L: Layer>(
     requires number { (number + 1) * 64 ^ height ≤ 1073741824 }
     requires edits { EditsLie edits.now.entries }
     ensures shows { Shows (P.shown pieces.old) (P.shown pieces.new) (height * edits_in height number (number + 1) edits.now.entries) }
-    ensures cause { IfErr result (IsUpdateCause (IsFull (L.space layer.new)) (IsTreeCause (P.shown pieces.old) (P.shown pieces.new) (P.misfits pieces.new) (nodes_of (P.texts pieces.new) tree.now) tree.now (λ rank. edit_at edits.now.entries rank ≡ None → ⊥) height number root)) }
+    ensures cause { IfErr result (IsUpdateCause (IsFull (L.space layer.new))
+        (IsTreeCause (P.shown pieces.old) (P.shown pieces.new) (P.misfits pieces.new)
+        (nodes_of (P.texts pieces.new) tree.now) tree.now (λ rank. edit_at edits.now.entries rank ≡ None → ⊥) height number root)) }
     ensures grows { Grows (P.texts pieces.old) (P.texts pieces.new) }
     ensures lays { Lays (L.laid layer.old) (L.laid layer.new) (height * edits_in height number (number + 1) edits.now.entries) }
     ensures lies { IfOk result (λ then. IsEntry root → IsEntry then) }
-    ensures rewritten { IfOk result (Rewritten (nodes_of (P.texts pieces.new) tree.now) (laid_nodes tree.now (L.laid layer.old) (L.laid layer.new)) edits.now.entries height number root) }
+    ensures rewritten { IfOk result (Rewritten (nodes_of (P.texts pieces.new) tree.now)
+        (laid_nodes tree.now (L.laid layer.old) (L.laid layer.new)) edits.now.entries height number root) }
 {
     if height == 0 {
         return Ok(edit_of(edits, number, root));
@@ -87,14 +90,20 @@ pub fn update<P: Pieces, L: Layer>(
     requires ranks { EditsFit MAP_HEIGHT edits.now.entries }
     requires pieces { EditsLie edits.now.entries }
     ensures updated { IfOk result (λ root. IsOneText (with_laid (P.texts pieces.new) (L.laid layer.new))
-        → IsUpdated (nodes_of (with_laid (P.texts pieces.new) (L.laid layer.new)) tree.now) edits.now.entries MAP_HEIGHT tree.now.root root) }
+        → IsUpdated (nodes_of (with_laid (P.texts pieces.new) (L.laid layer.new)) tree.now) edits.now.entries MAP_HEIGHT
+        tree.now.root root) }
     ensures only { IfOk result (λ root. IsOneText (with_laid (P.texts pieces.new) (L.laid layer.new))
-        → OnlyReaches (nodes_of (with_laid (P.texts pieces.new) (L.laid layer.new)) tree.now) (L.laid layer.old) (L.laid layer.new) edits.now.entries MAP_HEIGHT tree.now.root root) }
-    ensures rewritten { IfOk result (Rewritten (nodes_of (P.texts pieces.new) tree.now) (laid_nodes tree.now (L.laid layer.old) (L.laid layer.new)) edits.now.entries MAP_HEIGHT 0 tree.now.root) }
+        → OnlyReaches (nodes_of (with_laid (P.texts pieces.new) (L.laid layer.new)) tree.now) (L.laid layer.old)
+        (L.laid layer.new) edits.now.entries MAP_HEIGHT tree.now.root root) }
+    ensures rewritten { IfOk result (Rewritten (nodes_of (P.texts pieces.new) tree.now)
+        (laid_nodes tree.now (L.laid layer.old) (L.laid layer.new)) edits.now.entries MAP_HEIGHT 0 tree.now.root) }
     ensures lies { IfOk result (λ root. IsEntry tree.now.root → IsEntry root) }
     ensures lays { Lays (L.laid layer.old) (L.laid layer.new) (MAP_HEIGHT * length edits.now.entries) }
     ensures shows { Shows (P.shown pieces.old) (P.shown pieces.new) (MAP_HEIGHT * length edits.now.entries) }
-    ensures cause { IfErr result (IsUpdateCause (IsFull (L.space layer.new)) (IsTreeCause (P.shown pieces.old) (P.shown pieces.new) (P.misfits pieces.new) (nodes_of (P.texts pieces.new) tree.now) tree.now (λ rank. edit_at edits.now.entries rank ≡ None → ⊥) MAP_HEIGHT 0 tree.now.root)) }
+    ensures cause { IfErr result (IsUpdateCause (IsFull (L.space layer.new))
+        (IsTreeCause (P.shown pieces.old) (P.shown pieces.new) (P.misfits pieces.new)
+        (nodes_of (P.texts pieces.new) tree.now) tree.now (λ rank. edit_at edits.now.entries rank ≡ None → ⊥)
+        MAP_HEIGHT 0 tree.now.root)) }
     ensures grows { Grows (P.texts pieces.old) (P.texts pieces.new) }
 {
     rewrite(alloc, pieces, layer, tree, edits, MAP_HEIGHT, 0, tree.root)

@@ -25,7 +25,8 @@ fn walk_below<P: Pieces>(
     requires height { height ≤ 5 }
     requires number { (number + 1) * 64 ^ height ≤ 1073741824 }
     ensures walked { OnOk result (HasWalked (nodes_of (P.texts pieces.new) tree.now) height number root found.old.items found.new.items) }
-    ensures cause { IfErr result (IsTreeCause (P.shown pieces.old) (P.shown pieces.new) (P.misfits pieces.new) (nodes_of (P.texts pieces.new) tree.now) tree.now (λ _. Unit {0}) height number root) }
+    ensures cause { IfErr result (IsTreeCause (P.shown pieces.old) (P.shown pieces.new) (P.misfits pieces.new)
+        (nodes_of (P.texts pieces.new) tree.now) tree.now (λ _. Unit {0}) height number root) }
     ensures grows { Grows (P.texts pieces.old) (P.texts pieces.new) }
     ensures shows { Shows (P.shown pieces.old) (P.shown pieces.new) (node_count height) }
 {
@@ -61,7 +62,8 @@ pub fn walk<P: Pieces>(
     ensures at { IfOk result (λ entries. (rank : ℕ) → rank < 64 ^ MAP_HEIGHT
         → IsAt (nodes_of (P.texts pieces.new) tree.now) MAP_HEIGHT 0 tree.now.root rank (listed entries.items rank)) }
     ensures ascends { IfOk result (λ entries. Ascends 0 (64 ^ MAP_HEIGHT) entries.items) }
-    ensures cause { IfErr result (IsTreeCause (P.shown pieces.old) (P.shown pieces.new) (P.misfits pieces.new) (nodes_of (P.texts pieces.new) tree.now) tree.now (λ _. Unit {0}) MAP_HEIGHT 0 tree.now.root) }
+    ensures cause { IfErr result (IsTreeCause (P.shown pieces.old) (P.shown pieces.new) (P.misfits pieces.new)
+        (nodes_of (P.texts pieces.new) tree.now) tree.now (λ _. Unit {0}) MAP_HEIGHT 0 tree.now.root) }
     ensures grows { Grows (P.texts pieces.old) (P.texts pieces.new) }
     ensures shows { Shows (P.shown pieces.old) (P.shown pieces.new) (node_count MAP_HEIGHT) }
 {
