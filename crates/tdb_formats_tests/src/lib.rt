@@ -21,6 +21,8 @@ mod mark;
 #[cfg(test)]
 mod node;
 #[cfg(test)]
+mod nodes;
+#[cfg(test)]
 mod script;
 #[cfg(test)]
 mod seal;

@@ -70,7 +70,8 @@ impl Node {
     /// The piece that an entry names.
     pub fn get(&self, index: usize) -> Option<&Piece>
         requires { index < 64 }
-        ensures { MatchOption result (get_or self.now.entries index None ≡ None) (λ piece. get_or self.now.entries index None ≡ Some piece.now) }
+        ensures { MatchOption result (get_or self.now.entries index None ≡ None)
+            (λ piece. get_or self.now.entries index None ≡ Some piece.now) }
     {
         self.entries[index].as_ref()
     }
