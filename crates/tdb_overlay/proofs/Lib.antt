@@ -21,5 +21,3 @@ pub mod RequiredLaws
 pub mod SealedPuts
 pub mod Steps
 pub mod Unmistaken
-pub mod Leading
-pub mod RunsOn

@@ -22,5 +22,3 @@ pub mod SealedOnly
 pub mod Sound
 pub mod StoreState
 pub mod WellFormedLog
-pub mod Leading
-pub mod RanOn

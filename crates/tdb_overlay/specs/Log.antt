@@ -88,12 +88,6 @@ IsInUse Plain = Unit {0}
 IsInUse Aes128 = ⊥
 IsInUse Aes256 = ⊥
 
--- The suites that stores are made under. No store is made under a cipher yet.
-abbrev pub IsInUse : Suite → Type 0
-IsInUse Plain = Unit {0}
-IsInUse Aes128 = ⊥
-IsInUse Aes256 = ⊥
-
 -- A text of the store, with what it adds and the state after it.
 pub record IsStep (finds : Finds) (store : Store) (before : StoreState) (c : Commit) (added : History) (after : StoreState) : Type 0 where
   pub used : IsInUse store.suite
