@@ -16,7 +16,7 @@ module _ (secret : List ℕ) (segments : ℕ) where
   store = plain_store secret
 
   abbrev first : StoreState
-  first = formatted_state store
+  first = formatted_state store segments
 
   -- the end of the table
   abbrev tail : Place
