@@ -30,7 +30,7 @@ use Rattle.tdb_overlay.specs.Required.{IsNamedBy, RestsOn, base_of}
 use Rattle.tdb_overlay.specs.StoreState.{StoreState, first_state}
 use Rattle.tdb_overlay.proofs.Chains.{LogCounts, chain_in_format, log_counts}
 use Rattle.tdb_overlay.proofs.Lengths.{trace_sized}
-use Rattle.tdb_overlay.proofs.LogLaws.{list_stays}
+use Rattle.tdb_overlay.proofs.LogLaws.{list_stays, trace_finds_one}
 use Rattle.tdb_overlay.proofs.Needing.{base_of-last}
 use Rattle.tdb_overlay.proofs.Unmistaken.{text_length}
 use Rattle.tdb_chunk.specs.Formatting.{IsStart, plain_store}
@@ -144,7 +144,7 @@ module _ (store : Store) (old new : Outside) (n : ℕ) (ps done rest : List Plac
       still_stands (inr (inr (inl named))) =
           let list = commit_pieces told (trace_sized old.trace.written) store text from at_text named.kind in
           let entries : named.list.entries ≡ list.1.entries =
-          one_list new.trace.written store.secret text named.changes list.0 named.list (list_stays told (in_trace new.trace.written) finer store.secret text list.0 list.1) in
+          one_list (in_trace new.trace.written) (trace_finds_one new.trace.written) store.secret text named.changes list.0 named.list (list_stays told (in_trace new.trace.written) finer store.secret text list.0 list.1) in
           let names : named_records list.1.entries ≡ named.before ++ piece ∷ named.after = ap named_records (sym entries) ∙ named.names in
           let was_named : IsNamedBy told store.secret text piece = record { kind = named.kind; changes = list.0; list = list.1; before = named.before; after = named.after; names = names } in
           record_still (inr (inr (inl was_named))) (all_at (IsIn from.space) named.before piece named.after (subst (AllByRecursion (IsIn from.space)) names (list.2 since)))
@@ -190,7 +190,7 @@ module _ (store : Store) (old new : Outside) (n : ℕ) (ps done rest : List Plac
       named_found piece named (inr commit) =
           let list : HasChanges (in_pieces ps) store.secret c commit.0 = commit.1.list in
           let entries : named.list.entries ≡ list.entries =
-          one_list new.trace.written store.secret c named.changes commit.0 named.list (list_stays (in_pieces ps) (in_trace new.trace.written) put_finer store.secret c commit.0 list) in
+          one_list (in_trace new.trace.written) (trace_finds_one new.trace.written) store.secret c named.changes commit.0 named.list (list_stays (in_pieces ps) (in_trace new.trace.written) put_finer store.secret c commit.0 list) in
           all_at (IsFound (in_pieces ps)) named.before piece named.after
           (subst (AllByRecursion (IsFound (in_pieces ps))) (ap named_records (sym entries) ∙ named.names) (records_found (in_pieces ps) store.secret list.entries commit.0 list.each))
 
