@@ -1,3 +1,4 @@
+pub mod AdvanceRan
 pub mod Chains
 pub mod CheckpointLaws
 pub mod Coverings
@@ -11,6 +12,7 @@ pub mod Needing
 pub mod NextLaws
 pub mod NextTexts
 pub mod OneLog
+pub mod Pending
 pub mod PlacedLogs
 pub mod Placings
 pub mod PutLogs

@@ -38,7 +38,7 @@ no_split [] t rest is = cc
 no_split (x ∷ front) t rest is = cc
 
 -- one of some texts and a last one
-last_or_front : (chain : List Commit) (c : Commit) (earlier : List Commit) (text : Commit) (later : List Commit)
+pub last_or_front : (chain : List Commit) (c : Commit) (earlier : List Commit) (text : Commit) (later : List Commit)
     → chain ++ c ∷ [] ≡ earlier ++ text ∷ later
     → (text ≡ c) ⊎ ((more : List Commit) × (chain ≡ earlier ++ text ∷ more))
 last_or_front [] c [] text later e = inl (sym (same_heads c text [] later e).0)

@@ -144,6 +144,19 @@ goes_on_by written store anchor c ps added suites next other secrets before from
     let own = subst (λ (s : Store). IsLog written s anchor before from) same is in
     (own, next before from own)
 
+-- So does one whose pieces are all written before it, as soon as they are fresh.
+pub pieces_go_on : (written : List WrittenPiece) (store : Store) (anchor : Anchor) (c : Commit) (ps : List Placed) (added : History)
+    → c.count ≡ anchor.0 + 1 → NamesMark anchor c → c.root ≡ None
+    → ((other : Store) → other.secret ≡ store.secret → (before : History) (from : StoreState) → IsLog written other anchor before from
+    → other.suite ≡ store.suite)
+    → ((before : History) (from : StoreState) → IsLog written store anchor before from → (to : StoreState)
+    × IsStep (in_pieces ps) store from c added to × All (IsFreshIn from.space) ps)
+    → GoesOnWith written store anchor c ps added
+pieces_go_on written store anchor c ps added count mark rootless suites steps =
+    goes_on_by written store anchor c ps added suites (λ before from is.
+    let s = steps before from is in
+    (s.0, next_by_pieces written store anchor from c ps added s.0 s.1 rootless count mark s.2))
+
 -- The text that the anchor names has the suite of the log.
 pub head_suite : (written : List WrittenPiece) (store : Store) (anchor : Anchor) (n : ℕ) (history : History) (last : StoreState)
     → anchor.0 ≡ n + 1 → IsLog written store anchor history last → (text : List ℕ) (c : Commit)

@@ -93,7 +93,7 @@ module _ {D : Type 0} (outside : D → Outside) (crash_states : D → CrashState
   From old new surely maybe i a = FromLeft outside crash_states store old new surely maybe i a
 
   -- What is sound at the end was sound before.
-  sound_earlier : (old new : D) → (outside new).tells ≡ (outside old).tells
+  pub sound_earlier : (old new : D) → (outside new).tells ≡ (outside old).tells
       → (IsTrue (outside old).tells → Extends (outside old).trace (outside new).trace) → IsSound store.secret (outside new)
       → IsSound store.secret (outside old)
   sound_earlier old new tells grows sound =
@@ -109,7 +109,7 @@ module _ {D : Type 0} (outside : D → Outside) (crash_states : D → CrashState
   sound_before old new xs maybe ran sound = sound_earlier old new ran.tells ran.grows sound
 
   -- a pair that could be left then
-  from_itself : (old new : D) → Extends (outside old).trace (outside new).trace → (maybe : History) (i : List ℕ) (a : Anchor)
+  pub from_itself : (old new : D) → Extends (outside old).trace (outside new).trace → (maybe : History) (i : List ℕ) (a : Anchor)
       → now outside crash_states old i a → From old new [] maybe i a
   from_itself old new grows maybe i a here = record {
     image = i;

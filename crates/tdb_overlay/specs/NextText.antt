@@ -32,8 +32,8 @@ abbrev pub FindsAll : List WrittenPiece → List Placed → List WrittenPiece �
 FindsAll written pieces later = Finer (in_trace written) (in_trace later) × Finer (in_pieces pieces) (in_trace later)
 
 -- The text comes next after a log that ends at the anchor in the state `from`: it has the next count and names the anchor's mark. The
--- pieces stand where nothing was placed. As soon as
--- they are written, the text is a step; and it rests on itself, on the pieces, and on what the log needed.
+-- pieces stand where nothing was placed. As soon as they are written, the text is a step, and it rests on itself, on the pieces, and on
+-- what the log needed.
 pub record IsNextText (written : List WrittenPiece) (store : Store) (anchor : Anchor) (from : StoreState) (c : Commit)
     (pieces : List Placed) (added : History) (to : StoreState) : Type 0 where
   pub count : c.count ≡ anchor.0 + 1

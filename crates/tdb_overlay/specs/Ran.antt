@@ -16,7 +16,7 @@ use Rattle.tdb_overlay.specs.WellFormedLog.{IsAnchored, IsKeptLog, IsWellFormedT
 abbrev pub IsFront : History → History → Type 0
 IsFront front all = (rest : History) × (front ++ rest ≡ all)
 
--- Behind each log of the one anchor, the other's has the first commits, and a front of those that may have been made.
+-- Behind each log of the one anchor, the other's has the commits that were made for sure, and a first part of those that may have been.
 abbrev pub Leads : Store → List WrittenPiece → List WrittenPiece → History → History → Anchor → Anchor → Type 0
 Leads store earlier later surely maybe one other =
     (before : History) (from : StoreState) → IsLog earlier store one before from
