@@ -1,5 +1,5 @@
 -- A store of chunks in memory, and what it tells.
-use Rattle.std.specs.Prelude.{◌≡◌, ◌≤◌, ℕ, false, [], ◌∷◌, ◌++◌}
+use Rattle.std.specs.Prelude.{◌≡◌, ◌+◌, ◌≤◌, ℕ, false, List, [], ◌∷◌, ◌++◌}
 use Rattle.std.specs.Coded.{Coded, coded_ℕ, coded×, code_by}
 use Rattle.std.proofs.Common.{refl, ◌∙◌, ap, inr, arith}
 use Rattle.tdb_base.specs.declared.suite.Suite.{Suite}
@@ -9,6 +9,7 @@ use Rattle.tdb_model.specs.Limits.{count_limit}
 use Rattle.tdb_model.specs.Meanings.{Meanings}
 use Rattle.tdb_model.specs.Memory.{coded_state, coded_suite}
 use Rattle.tdb_model.specs.State.{State}
+use Rattle.tdb_model.specs.declared.change.Change.{Change}
 use Rattle.tdb_model.specs.declared.error.CommitError.TheVariants.{CounterEnd}
 
 pub record InMemory : Type 0 where
@@ -21,6 +22,14 @@ pub record InMemory : Type 0 where
 abbrev pub coded_in_memory : Coded InMemory
 coded_in_memory = code_by (Suite × (ℕ × State)) (coded× coded_suite (coded× coded_ℕ coded_state))
     (λ c. (c.suite, (c.count, c.state))) (λ t. record { suite = t.0; count = t.1.0; state = t.1.1 }) (λ _. refl)
+
+-- what a commit of these changes makes of it
+abbrev pub after_commit : List Change → InMemory → InMemory
+after_commit changes c = record {
+  suite = c.suite;
+  count = c.count + 1;
+  state = apply_all (c.count + 1) c.state changes;
+}
 
 -- The commits that were answered Ok make the later state of the earlier one. None is begun that isn't answered Ok.
 pub record RanInMemory (old : InMemory) (surely : History) (new : InMemory) : Type 0 where

@@ -1,5 +1,5 @@
 //! A store of chunks in memory.
-ghost use Rattle.std.specs.Prelude.{◌≡◌};
+ghost use Rattle.std.specs.Prelude.{◌≡◌, OnErr, OnOk};
 ghost use Rattle.tdb_model.specs.State.{no_partitions};
 
 use crate::change::{Change, PartInfo};
@@ -51,13 +51,18 @@ impl MemoryChunks {
 }
 
 impl Chunks for MemoryChunks {
-    ghost use Rattle.tdb_model.specs.InMemory.{memory_lawful, memory_means};
+    ghost use Rattle.tdb_model.specs.HasCommitted.{HasCommitted, IsCommittable};
+    ghost use Rattle.tdb_model.specs.HasRead.{HasRead};
+    ghost use Rattle.tdb_model.specs.InMemory.{after_commit, memory_lawful, memory_means};
 
     ghost means = { memory_means };
 
     ghost lawful = { memory_lawful };
 
-    fn read(&mut self, alloc: Global, part: PartId, rank: Rank) -> Result<Vec<u8>, ReadError> {
+    fn read(&mut self, alloc: Global, part: PartId, rank: Rank) -> Result<Vec<u8>, ReadError>
+        ensures read { HasRead memory_means part rank self.old self.new result }
+        ensures leaves { self.new ≡ self.old }
+    {
         let Some(bytes) = self.state.chunk(part, rank) else {
             return match self.state.info(part) {
                 Some(_) => Err(ReadError::NoChunk),
@@ -70,7 +75,13 @@ impl Chunks for MemoryChunks {
         }
     }
 
-    fn commit(&mut self, alloc: Global, changes: &[Change]) -> Result<(), CommitError> {
+    // A commit has the next count. A refused one leaves all.
+    fn commit(&mut self, alloc: Global, changes: &[Change]) -> Result<(), CommitError>
+        requires changes { IsCommittable changes.now }
+        ensures committed { HasCommitted memory_means changes.now self.old self.new result }
+        ensures next { OnOk result (self.new ≡ after_commit changes.now self.old) }
+        ensures refused { OnErr result (self.new ≡ self.old) }
+    {
         match self.state.check(changes) {
             Ok(()) => {}
             Err(refusal) => return Err(refusal),
