@@ -19,7 +19,9 @@ use Rattle.tdb_serve.specs.Running.{NextRan, ScriptRan}
 use Rattle.tdb_serve.specs.declared.script_end.ScriptEnd.{ScriptEnd}
 use Rattle.tdb_serve.specs.declared.script_end.ScriptEnd.TheVariants.{Bye, End, SourceFault, SinkFault, PlatformFault, Memory}
 use Rattle.tdb_notes.specs.NotesMachine.{Begins, IsAt, IsNotTampered, IsTold, IsUnhurt, Runs, Step}
-use Rattle.tdb_notes.specs.Script.{Answer, IsAnswer, IsAnswerIn, IsAnswerTo, IsChunkReply, IsCommitAnswer, IsHurt, IsNoteReply, ScriptState, Transaction, abort_answer, begin_answer, changes_of, in_transaction, new_answer, own_note, refusal_reply}
+use Rattle.tdb_notes.specs.Script.{Answer, IsAnswer, IsAnswerIn, IsAnswerTo, IsChunkReply, IsCommitAnswer, IsHurt, IsNoteReply}
+use Rattle.tdb_notes.specs.Script.{ScriptState, Transaction, abort_answer, begin_answer, changes_of, in_transaction, new_answer}
+use Rattle.tdb_notes.specs.Script.{own_note, refusal_reply}
 use Rattle.tdb_notes.specs.declared.notes.Notes.{Notes}
 
 -- a reply that is another one

@@ -20,7 +20,10 @@ use Rattle.tdb_model.specs.State.{State, Partition}
 use Rattle.tdb_script.specs.LineSpelling.{LineValue, IsLine, begin, new_note, get, abort, commit, quit}
 use Rattle.tdb_script.specs.NoteText.{IsStoredNote, stored_note_bytes}
 use Rattle.tdb_script.specs.declared.reply.Reply.{Reply}
-use Rattle.tdb_script.specs.declared.reply.Reply.TheVariants.{Begun, Made, Got, Aborted, Committed, Bye, RefusedUnbuilt, RefusedNoTransaction, RefusedOpen, RefusedNoObject, RefusedPickle, RefusedIds, RefusedChanges, RefusedFull, RefusedRing, RefusedCounter, Tampered}
+use Rattle.tdb_script.specs.declared.reply.Reply.TheVariants.{Begun, Made, Got, Aborted, Committed, Bye, RefusedUnbuilt}
+use Rattle.tdb_script.specs.declared.reply.Reply.TheVariants.{RefusedNoTransaction, RefusedOpen, RefusedNoObject, RefusedPickle}
+use Rattle.tdb_script.specs.declared.reply.Reply.TheVariants.{RefusedIds, RefusedChanges, RefusedFull, RefusedRing, RefusedCounter}
+use Rattle.tdb_script.specs.declared.reply.Reply.TheVariants.{Tampered}
 
 -- an open transaction: its number, and the notes that it made, each with its id
 pub record Transaction : Type 0 where

@@ -8,6 +8,8 @@
 #[cfg(test)]
 mod machine;
 #[cfg(test)]
+mod notes;
+#[cfg(test)]
 mod serving;
 #[cfg(test)]
 mod streams;
