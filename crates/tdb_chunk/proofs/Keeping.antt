@@ -39,7 +39,7 @@ use Rattle.tdb_chunk.specs.Text.{anchor_of, text_in_slot, text_of}
 use Rattle.tdb_overlay.proofs.Listed.{all_at}
 use Rattle.tdb_overlay.proofs.PutLogs.{chain_still, follows_is, found_in_put, grows_all, in_later_trace, text_in_put}
 use Rattle.tdb_overlay.proofs.PlacedLogs.{IsIn, TextAt, commit_pieces, one_list, text_at}
-use Rattle.tdb_chunk.proofs.Standing.{ put_record, put_text, record_stands, text_stands}
+use Rattle.tdb_chunk.proofs.Standing.{put_record, put_text, record_stands, text_stands}
 use Rattle.tdb_chunk.proofs.Starting.{first_steps, fresh_at_first, starts_first}
 
 -- the piece stands for some bytes
