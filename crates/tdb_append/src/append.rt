@@ -35,6 +35,7 @@ fn write_all<P: Platform>(platform: &mut P, pieces: &[Laid]) -> Result<(), Faile
         → OnOk result (EachHolds (P.outside platform.new).image (placed pieces.now)) }
     ensures anchor { IsTrue (P.outside platform.old).tells
         → (P.outside platform.new).anchor ≡ (P.outside platform.old).anchor }
+    ensures quiet { OnOk result ((P.outside platform.new).faults ≡ (P.outside platform.old).faults) }
 {
     for piece in pieces {
         platform.write(piece.place.0, piece.bytes.as_slice())?;
@@ -76,6 +77,7 @@ pub fn put<P: Platform>(
     ensures head { IfOk result (λ next. (next.count, next.mark.0) ≡ next_anchor head.now text.now) }
     ensures base { IfOk result (λ next. next.base ≡ head.now.base) }
     ensures told { Told (P.outside platform.old) (P.outside platform.new) result }
+    ensures quiet { OnOk result ((P.outside platform.new).faults ≡ (P.outside platform.old).faults) }
 {
     let count = head.count + 1;
     let mark = Digest(Sha256::digest(text));

@@ -93,6 +93,7 @@ impl Platform for HostilePlatform {
         ensures now { LeavesNoMore outside crash_states self.old self.new }
         ensures time { Elapses (outside self.old) (outside self.new) (crash_states self.old) (crash_states self.new) }
         ensures told { Told (outside self.old) (outside self.new) result }
+        ensures quiet { OnOk result ((outside self.new).faults ≡ (outside self.old).faults) }
         ensures shown { IfOk result (λ n. take n into.new ≡ shown (given_answers self.old) (reads_asked self.new) (length into.old) (take (length into.old) (drop at (device_bytes self.old)))) }
         ensures asked { reads_asked self.new ≡ min (reads_asked self.old + 1) 18446744073709551615 }
         ensures answers { given_answers self.new ≡ given_answers self.old }
@@ -120,6 +121,7 @@ impl Platform for HostilePlatform {
             → (was : List ℕ) × crash_states self.old (outside self.old).clock was a × (IsTrue (outside self.old).honest → SameExcept at (length piece.now) was i) }
         ensures time { Elapses (outside self.old) (outside self.new) (crash_states self.old) (crash_states self.new) }
         ensures told { Told (outside self.old) (outside self.new) result }
+        ensures quiet { OnOk result ((outside self.new).faults ≡ (outside self.old).faults) }
         ensures stored { OnOk result (device_bytes self.new ≡ overwritten (device_bytes self.old) at piece.now) }
         ensures stored_err { OnErr result (device_bytes self.new ≡ device_bytes self.old) }
         ensures answers { SameAnswers self.old self.new }
@@ -136,6 +138,7 @@ impl Platform for HostilePlatform {
         ensures now { LeavesNoMore outside crash_states self.old self.new }
         ensures time { Elapses (outside self.old) (outside self.new) (crash_states self.old) (crash_states self.new) }
         ensures told { Told (outside self.old) (outside self.new) result }
+        ensures quiet { OnOk result ((outside self.new).faults ≡ (outside self.old).faults) }
         ensures stored { device_bytes self.new ≡ device_bytes self.old }
         ensures answers { SameAnswers self.old self.new }
         ensures planned { FailsAsPlanned self.old.inner self.new.inner result }
@@ -152,6 +155,7 @@ impl Platform for HostilePlatform {
         ensures now { LeavesNoMore outside crash_states self.old self.new }
         ensures time { Elapses (outside self.old) (outside self.new) (crash_states self.old) (crash_states self.new) }
         ensures told { Told (outside self.old) (outside self.new) result }
+        ensures quiet { OnOk result ((outside self.new).faults ≡ (outside self.old).faults) }
         ensures stored { device_bytes self.new ≡ device_bytes self.old }
         ensures answers { SameAnswers self.old self.new }
         ensures planned { FailsAsPlanned self.old.inner self.new.inner result }
@@ -170,6 +174,7 @@ impl Platform for HostilePlatform {
             → (was : Anchor) × crash_states self.old (outside self.old).clock i was × ((a ≡ was) ⊎ (a ≡ (count, mark.now))) }
         ensures time { Elapses (outside self.old) (outside self.new) (crash_states self.old) (crash_states self.new) }
         ensures told { Told (outside self.old) (outside self.new) result }
+        ensures quiet { OnOk result ((outside self.new).faults ≡ (outside self.old).faults) }
         ensures stored { device_bytes self.new ≡ device_bytes self.old }
         ensures answers { SameAnswers self.old self.new }
         ensures planned { FailsAsPlanned self.old.inner self.new.inner result }

@@ -90,6 +90,7 @@ impl MemoryPlatform {
         ensures now { LeavesNoMore outside crash_states self.old self.new }
         ensures time { Elapses (outside self.old) (outside self.new) (crash_states self.old) (crash_states self.new) }
         ensures told { Told (outside self.old) (outside self.new) result }
+        ensures quiet { OnOk result ((outside self.new).faults ≡ (outside self.old).faults) }
         ensures into_err { OnErr result (into.new ≡ into.old) }
         ensures planned { FailsAsPlanned self.old self.new result }
     {
@@ -169,6 +170,7 @@ impl Platform for MemoryPlatform {
         ensures now { LeavesNoMore outside crash_states self.old self.new }
         ensures time { Elapses (outside self.old) (outside self.new) (crash_states self.old) (crash_states self.new) }
         ensures told { Told (outside self.old) (outside self.new) result }
+        ensures quiet { OnOk result ((outside self.new).faults ≡ (outside self.old).faults) }
         ensures into_err { OnErr result (into.new ≡ into.old) }
         ensures planned { FailsAsPlanned self.old self.new result }
     {
@@ -196,6 +198,7 @@ impl Platform for MemoryPlatform {
             → (was : List ℕ) × crash_states self.old (outside self.old).clock was a × (IsTrue (outside self.old).honest → SameExcept at (length piece.now) was i) }
         ensures time { Elapses (outside self.old) (outside self.new) (crash_states self.old) (crash_states self.new) }
         ensures told { Told (outside self.old) (outside self.new) result }
+        ensures quiet { OnOk result ((outside self.new).faults ≡ (outside self.old).faults) }
         // A failing write changes nothing that later reads give, and counts as written unless it found no memory.
         ensures unchanged { OnErr result ((outside self.new).image ≡ (outside self.old).image) }
         ensures counted { OnErr result (calls_short self.new ≡ calls_short self.old → calls_short self.old < 18446744073709551615 → (outside self.new).trace ≡ with_written (outside self.old).trace at piece.now) }
@@ -221,6 +224,7 @@ impl Platform for MemoryPlatform {
         ensures now { LeavesNoMore outside crash_states self.old self.new }
         ensures time { Elapses (outside self.old) (outside self.new) (crash_states self.old) (crash_states self.new) }
         ensures told { Told (outside self.old) (outside self.new) result }
+        ensures quiet { OnOk result ((outside self.new).faults ≡ (outside self.old).faults) }
         ensures planned { FailsAsPlanned self.old self.new result }
     {
         if self.plan.next() {
@@ -244,6 +248,7 @@ impl Platform for MemoryPlatform {
         ensures now { LeavesNoMore outside crash_states self.old self.new }
         ensures time { Elapses (outside self.old) (outside self.new) (crash_states self.old) (crash_states self.new) }
         ensures told { Told (outside self.old) (outside self.new) result }
+        ensures quiet { OnOk result ((outside self.new).faults ≡ (outside self.old).faults) }
         ensures planned { FailsAsPlanned self.old self.new result }
     {
         if self.plan.next() {
@@ -269,6 +274,7 @@ impl Platform for MemoryPlatform {
             → (was : Anchor) × crash_states self.old (outside self.old).clock i was × ((a ≡ was) ⊎ (a ≡ (count, mark.now))) }
         ensures time { Elapses (outside self.old) (outside self.new) (crash_states self.old) (crash_states self.new) }
         ensures told { Told (outside self.old) (outside self.new) result }
+        ensures quiet { OnOk result ((outside self.new).faults ≡ (outside self.old).faults) }
         ensures unchanged { OnErr result ((outside self.new).anchor ≡ (outside self.old).anchor) }
         ensures planned { FailsAsPlanned self.old self.new result }
     {

@@ -32,7 +32,8 @@ pub trait Platform {
         ensures anchor { IsTrue (outside self.old).tells → (outside self.new).anchor ≡ (outside self.old).anchor }
         ensures now { LeavesNoMore outside crash_states self.old self.new }
         ensures time { Elapses (outside self.old) (outside self.new) (crash_states self.old) (crash_states self.new) }
-        ensures told { Told (outside self.old) (outside self.new) result };
+        ensures told { Told (outside self.old) (outside self.new) result }
+        ensures quiet { OnOk result ((outside self.new).faults ≡ (outside self.old).faults) };
 
     /// Writes a piece. Until a sync succeeds, a stop may leave any bytes in its range and in the gap before it.
     ///
@@ -48,7 +49,8 @@ pub trait Platform {
         ensures now { (i : List ℕ) (a : Anchor) → crash_states self.new (outside self.new).clock i a
             → (was : List ℕ) × crash_states self.old (outside self.old).clock was a × (IsTrue (outside self.old).honest → SameExcept at (length piece.now) was i) }
         ensures time { Elapses (outside self.old) (outside self.new) (crash_states self.old) (crash_states self.new) }
-        ensures told { Told (outside self.old) (outside self.new) result };
+        ensures told { Told (outside self.old) (outside self.new) result }
+        ensures quiet { OnOk result ((outside self.new).faults ≡ (outside self.old).faults) };
 
     /// Makes sure of what was written: a stop then leaves what a read gives.
     fn sync(&mut self) -> Result<(), Failed>
@@ -58,7 +60,8 @@ pub trait Platform {
         ensures anchor { IsTrue (outside self.old).tells → (outside self.new).anchor ≡ (outside self.old).anchor }
         ensures now { LeavesNoMore outside crash_states self.old self.new }
         ensures time { Elapses (outside self.old) (outside self.new) (crash_states self.old) (crash_states self.new) }
-        ensures told { Told (outside self.old) (outside self.new) result };
+        ensures told { Told (outside self.old) (outside self.new) result }
+        ensures quiet { OnOk result ((outside self.new).faults ≡ (outside self.old).faults) };
 
     /// Gives the anchor, its count and its mark, and settles an advance that failed:
     /// until the next advance a stop leaves the anchor that it gave.
@@ -70,7 +73,8 @@ pub trait Platform {
         ensures anchor { IsTrue (outside self.old).tells → (outside self.new).anchor ≡ (outside self.old).anchor }
         ensures now { LeavesNoMore outside crash_states self.old self.new }
         ensures time { Elapses (outside self.old) (outside self.new) (crash_states self.old) (crash_states self.new) }
-        ensures told { Told (outside self.old) (outside self.new) result };
+        ensures told { Told (outside self.old) (outside self.new) result }
+        ensures quiet { OnOk result ((outside self.new).faults ≡ (outside self.old).faults) };
 
     /// Exchanges the anchor in one step, for the next count with a mark. After `Err` the anchor is the old one or the
     /// new one, and until an `anchor` succeeds a stop may leave either.
@@ -84,7 +88,8 @@ pub trait Platform {
         ensures now { (i : List ℕ) (a : Anchor) → crash_states self.new (outside self.new).clock i a
             → (was : Anchor) × crash_states self.old (outside self.old).clock i was × ((a ≡ was) ⊎ (a ≡ (count, mark.now))) }
         ensures time { Elapses (outside self.old) (outside self.new) (crash_states self.old) (crash_states self.new) }
-        ensures told { Told (outside self.old) (outside self.new) result };
+        ensures told { Told (outside self.old) (outside self.new) result }
+        ensures quiet { OnOk result ((outside self.new).faults ≡ (outside self.old).faults) };
 
     /// What a stop since a later moment may leave, one since an earlier moment may leave too.
     ghost counts: { (p : Self) (t u : ℕ) (i : List ℕ) (a : Anchor) → t ≤ u → u ≤ (outside p).clock → crash_states p u i a → crash_states p t i a };

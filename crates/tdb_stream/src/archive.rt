@@ -30,5 +30,6 @@ pub trait Archive: Drop {
         ensures number { (content self.new).number ≡ (content self.old).number }
         ensures tells { (content self.new).tells ≡ (content self.old).tells }
         ensures no_fewer { (content self.old).faults ≤ (content self.new).faults }
+        ensures quiet { OnOk result ((content self.new).faults ≡ (content self.old).faults) }
         ensures cause { IsErr result → Rose (content self.old).faults (content self.new).faults };
 }

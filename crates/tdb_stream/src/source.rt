@@ -1,5 +1,5 @@
 // Where bytes come from.
-ghost use Rattle.std.specs.Prelude.{◌≡◌, ◌<◌, ◌≤◌, ◌↔◌, [], length, take, drop, IsTrue, IfOk, OnErr, IsErr};
+ghost use Rattle.std.specs.Prelude.{◌≡◌, ◌<◌, ◌≤◌, ◌↔◌, [], length, take, drop, IsTrue, IfOk, OnOk, OnErr, IsErr};
 ghost use Rattle.tdb_base.specs.Rose.{Rose};
 ghost use Rattle.tdb_stream.specs.SourceContent.{SourceContent, Takes};
 
@@ -28,5 +28,6 @@ pub trait Source {
 
         ensures tells { (content self.new).tells ≡ (content self.old).tells }
         ensures no_fewer { (content self.old).faults ≤ (content self.new).faults }
+        ensures quiet { OnOk result ((content self.new).faults ≡ (content self.old).faults) }
         ensures cause { IsErr result → Rose (content self.old).faults (content self.new).faults };
 }

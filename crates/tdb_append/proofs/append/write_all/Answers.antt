@@ -20,6 +20,7 @@ loop-piece-init g c = record {
   progress = at_start g.P.Platform.outside g.P.Platform.crash_states g.met.P.Platform.counts c.args.platform.now;
   holds = λ h k d within. absurd (omega (arith, within));
   anchor = λ t. refl;
+  quiet = refl;
 }
 
 pub loop-piece-preserved : goal.loop-piece-preserved
@@ -47,6 +48,7 @@ loop-piece-preserved g c =
           (holds_more (placed pieces) (placed (take k pieces)) (placed (drop (k + 1) pieces)) p (outside mid).image (outside new).image split c.requires.apart (so_far.holds h) (wrote.image still)
           (subst (λ (i : List ℕ). Holds i p.place p.bytes) (sym (c.in_ok-write.ensures.written still)) (overwritten_holds (outside mid).image p.place p.bytes)));
       anchor = λ t. wrote.anchor (subst IsTrue (sym so_far.progress.tells) t) ∙ so_far.anchor t;
+      quiet = c.in_ok-write.ensures.quiet ∙ so_far.quiet;
     }
 
 pub returns-in_err-write-clause-writes : goal.returns-in_err-write-clause-writes

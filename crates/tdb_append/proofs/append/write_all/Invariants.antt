@@ -9,4 +9,5 @@ invariant-loop-piece g l = record {
   progress : Progress g.P.Platform.outside g.P.Platform.crash_states l.fn.platform l.platform (placed (take l.piece-index l.pieces));
   holds : IsTrue (g.P.Platform.outside l.fn.platform).honest → EachHolds (g.P.Platform.outside l.platform).image (placed (take l.piece-index l.pieces));
   anchor : IsTrue (g.P.Platform.outside l.fn.platform).tells → (g.P.Platform.outside l.platform).anchor ≡ (g.P.Platform.outside l.fn.platform).anchor;
+  quiet : (g.P.Platform.outside l.platform).faults ≡ (g.P.Platform.outside l.fn.platform).faults;
 }
