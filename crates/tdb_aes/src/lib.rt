@@ -11,7 +11,5 @@ mod expansion;
 mod schedule;
 mod state;
 mod tables;
-#[cfg(test)]
-mod tests;
 
 pub use schedule::Schedule;

@@ -47,13 +47,13 @@ length-IsState s h = ap length h.whole
 abbrev pub AreBytes : List ℕ → Type 0
 AreBytes s = (k : ℕ) → get_or s k 0 < 256
 
-AreBytes-take : (n : ℕ) (s : List ℕ) → AreBytes s → AreBytes (take n s)
+pub AreBytes-take : (n : ℕ) (s : List ℕ) → AreBytes s → AreBytes (take n s)
 AreBytes-take zero s h k = omega arith
 AreBytes-take (suc n) [] h k = omega arith
 AreBytes-take (suc n) (x ∷ xs) h zero = h zero
 AreBytes-take (suc n) (x ∷ xs) h (suc k) = AreBytes-take n xs (λ j. h (suc j)) k
 
-AreBytes-drop : (n : ℕ) (s : List ℕ) → AreBytes s → AreBytes (drop n s)
+pub AreBytes-drop : (n : ℕ) (s : List ℕ) → AreBytes s → AreBytes (drop n s)
 AreBytes-drop zero s h k = h k
 AreBytes-drop (suc n) [] h k = omega arith
 AreBytes-drop (suc n) (x ∷ xs) h k = AreBytes-drop n xs (λ j. h (suc j)) k

@@ -1,8 +1,8 @@
 -- What was enciphered in a chain deciphers to itself, and what was sealed opens to its text alone.
-use Rattle.std.proofs.Common.{◌≡◌, ◌≢◌, ℕ, zero, suc, ◌+◌, ◌-◌, ◌*◌, ◌/◌, ◌%◌, ◌<◌, ◌≤◌, ◌↔◌, List, ◌++◌, length, drop, take, replicate, refl, ap, sym, ◌∙◌, inl, inr, arith}
+use Rattle.std.proofs.Common.{◌≡◌, ◌≢◌, ℕ, zero, suc, ◌+◌, ◌-◌, ◌*◌, ◌/◌, ◌%◌, ◌<◌, ◌≤◌, ◌↔◌, List, ◌++◌, length, drop, take, replicate, refl, ap, sym, ◌∙◌, subst, inl, inr, arith}
 use Rattle.std.proofs.lemmas.Bool.{cases_eq}
 use Rattle.std.proofs.lemmas.List.{append_assoc, length-append, length-drop, length-replicate, length-take-le, take-append-drop}
-use Rattle.tdb_aes.proofs.CipherLaws.{IsState-cipher, IsState-inverse_cipher, inverse_cipher-cipher}
+use Rattle.tdb_aes.proofs.CipherLaws.{IsState-cipher, IsState-inverse_cipher, cipher-inverse_cipher, inverse_cipher-cipher}
 use Rattle.tdb_aes.proofs.StateLaws.{IsState}
 use Rattle.tdb_aes.specs.Cipher.{cipher, inverse_cipher}
 use Rattle.tdb_cbc.specs.Blocks.{block, joined, xor_bytes}
@@ -10,8 +10,8 @@ use Rattle.tdb_cbc.specs.Cbc.{cipher_block, decrypted, encrypted, given_block, p
 use Rattle.tdb_cbc.specs.LastBlock.{EndsInPadding}
 use Rattle.tdb_cbc.specs.Padding.{padded, padding_length}
 use Rattle.tdb_cbc.specs.Sealed.{HasNoWholeBlocks, Opens, sealed}
-use Rattle.tdb_cbc.proofs.BlockLaws.{AreBytes, AreBytes-append, AreBytes-replicate, IsState-block, IsState-xor_bytes, block-append, block-behind, block-joined, joined-block, joined-same, length-IsState, length-joined, xor_bytes-xor_bytes}
-use Rattle.tdb_cbc.proofs.PaddingLaws.{length-padded, padded-cut, padded-ends, padded-injective}
+use Rattle.tdb_cbc.proofs.BlockLaws.{AreBytes, AreBytes-append, AreBytes-replicate, AreBytes-take, IsState-block, IsState-xor_bytes, block-append, block-behind, block-joined, joined-block, joined-same, length-IsState, length-joined, xor_bytes-xor_bytes}
+use Rattle.tdb_cbc.proofs.PaddingLaws.{length-padded, padded-cut, padded-ends, padded-injective, take-padded}
 
 pub IsState-cipher_block : (key iv text : List ℕ) (j : ℕ) → 16 * j ≤ length text → IsState iv → AreBytes text → IsState (cipher_block key iv text j)
 unfolding cipher_block
@@ -75,6 +75,37 @@ decrypted-encrypted key iv text n long hi h =
     (λ j less. plain_block-encrypted key iv text n j less long hi h)
     ∙ joined-block text n long
 
+-- the chain of what was deciphered is the cipher blocks that were given
+cipher_block-decrypted : (key iv bytes : List ℕ) (n j : ℕ) → j ≤ n → length bytes ≡ 16 * n → IsState iv → AreBytes bytes
+    → cipher_block key iv (joined (plain_block key iv bytes) n) j ≡ given_block iv bytes j
+unfolding cipher_block given_block plain_block
+cipher_block-decrypted key iv bytes n zero low long hi h = refl
+cipher_block-decrypted key iv bytes n (suc j) low long hi h =
+    let given : List ℕ = given_block iv bytes j in
+    let is_given : IsState given = IsState-given_block iv bytes j (omega arith) hi h in
+    let is_block : IsState (block bytes j) = IsState-block bytes j (omega arith) h in
+    let opened : List ℕ = inverse_cipher key (block bytes j) in
+    let before = cipher_block-decrypted key iv bytes n j (omega arith) long hi h in
+    let here : block (joined (plain_block key iv bytes) n) j ≡ plain_block key iv bytes j = block-joined (plain_block key iv bytes) n j (omega arith)
+    (λ k less. length-IsState (plain_block key iv bytes k) (IsState-plain_block key iv bytes k (omega arith) hi h)) in
+    (λ i. cipher key (xor_bytes (here i) (before i)))
+    ∙ ap (cipher key) (xor_bytes-xor_bytes opened given (IsState-inverse_cipher key (block bytes j) is_block) is_given)
+    ∙ cipher-inverse_cipher key (block bytes j) is_block
+
+pub encrypted-decrypted : (key iv bytes : List ℕ) (n : ℕ) → length bytes ≡ 16 * n → IsState iv → AreBytes bytes
+    → encrypted key iv (decrypted key iv bytes) ≡ bytes
+unfolding given_block
+encrypted-decrypted key iv bytes n long hi h =
+    let blocks : length bytes / 16 ≡ n = omega arith in
+    let whole : length (joined (plain_block key iv bytes) n) ≡ 16 * n = length-joined (plain_block key iv bytes) n
+    (λ k less. length-IsState (plain_block key iv bytes k) (IsState-plain_block key iv bytes k (omega arith) hi h)) in
+    let count : length (joined (plain_block key iv bytes) n) / 16 ≡ n = omega arith in
+    ap (λ (m : ℕ). encrypted key iv (joined (plain_block key iv bytes) m)) blocks
+    ∙ ap (joined (λ k. cipher_block key iv (joined (plain_block key iv bytes) n) (suc k))) count
+    ∙ joined-same (λ k. cipher_block key iv (joined (plain_block key iv bytes) n) (suc k)) (block bytes) n
+    (λ j less. cipher_block-decrypted key iv bytes n (suc j) less long hi h)
+    ∙ joined-block bytes n long
+
 -- ---- sealed texts
 
 AreBytes-padded : (text : List ℕ) → AreBytes text → AreBytes (padded text)
@@ -99,6 +130,17 @@ opens-sealed key iv plain text hi h =
         plain = back ∙ ap padded (sym same);
       },
     )
+
+-- what opens to a text is that text sealed
+pub sealed-opens : (key iv bytes text : List ℕ) → IsState iv → AreBytes bytes → Opens key iv bytes text → bytes ≡ sealed key iv text
+sealed-opens key iv bytes text hi h opens =
+    let n : ℕ = length bytes / 16 in
+    let long : length bytes ≡ 16 * n =
+    elim (cases_eq (length bytes % 16) 0) [
+      | inl even ↦ omega arith
+      | inr odd ↦ absurd (opens.whole (inr odd))
+    ] in
+    sym (encrypted-decrypted key iv bytes n long hi h) ∙ ap (encrypted key iv) opens.plain
 
 -- ---- one block of a loop
 
@@ -231,3 +273,17 @@ length-opens key iv bytes text hi h opens =
     let same = ap length opens.plain in
     let long = length-padded text in
     omega arith
+
+-- ---- what bytes open to are bytes
+
+AreBytes-joined : (f : ℕ → List ℕ) (n : ℕ) → ((j : ℕ) → j < n → AreBytes (f j)) → AreBytes (joined f n)
+unfolding joined
+AreBytes-joined f zero h k = omega arith
+AreBytes-joined f (suc n) h k = AreBytes-append (joined f n) (f n) (AreBytes-joined f n (λ j low. h j (omega arith))) (h n (omega arith)) k
+
+pub AreBytes-opens : (key iv bytes text : List ℕ) → IsState iv → AreBytes bytes → Opens key iv bytes text → AreBytes text
+AreBytes-opens key iv bytes text hi h opens =
+    let n : ℕ = length bytes / 16 in
+    let blocks : AreBytes (joined (plain_block key iv bytes) n) =
+    AreBytes-joined (plain_block key iv bytes) n (λ j less. (IsState-plain_block key iv bytes j (omega arith) hi h).small) in
+    subst AreBytes (ap (take (length text)) opens.plain ∙ take-padded text) (AreBytes-take (length text) (joined (plain_block key iv bytes) n) blocks)

@@ -1,6 +1,6 @@
 //! Texts sealed and opened.
 
-ghost use Rattle.std.specs.Prelude.{◌≡◌, ◌↔◌, ℕ, ◌+◌, ◌*◌, ◌/◌, ◌<◌, ◌≤◌, ◌++◌, List, IfOk, IsErrOf, length};
+ghost use Rattle.std.specs.Prelude.{◌≡◌, ◌↔◌, ℕ, ◌+◌, ◌*◌, ◌/◌, ◌<◌, ◌≤◌, ◌++◌, List, IfOk, IsErrOf, OnErr, is_ok, if◌then◌else◌, length, vec_capacity, vec_len};
 ghost use Rattle.tdb_cbc.specs.Blocks.{joined};
 ghost use Rattle.tdb_cbc.specs.Cbc.{plain_block};
 ghost use Rattle.tdb_cbc.specs.Sealed.{HasNoWholeBlocks, Opens, sealed};
@@ -27,22 +27,40 @@ pub fn seal(
     ensures opens { IfOk result (λ bytes. (text : List ℕ)
         → Opens schedule.now iv.now bytes.items text ↔ (text ≡ plain.now)) }
 {
+    let mut text = Vec::with_capacity(alloc, 16 * (plain.len() / 16) + 16)?;
+    push_sealed(&mut text, schedule, iv, plain)?;
+    Ok(text)
+}
+
+/// Appends what `seal` gives. It can fail only where the vector has too little capacity, and then
+/// leaves it as it was.
+pub fn push_sealed(
+    text: &mut Vec<u8>,
+    schedule: &Schedule,
+    iv: &[u8; 16],
+    plain: &[u8],
+) -> Result<(), AllocError>
+    ensures items { text.new.items
+        ≡ (if is_ok result then text.old.items ++ sealed schedule.now iv.now plain.now else text.old.items) }
+    ensures full { OnErr result (vec_capacity text.old < vec_len text.old + 16 * (length plain.now / 16 + 1)) }
+{
     let whole = plain.len() / 16;
-    let mut sealed = Vec::with_capacity(alloc, 16 * whole + 16)?;
+    text.reserve(16 * whole + 16)?;
     let mut previous = *iv;
     for j in 0..whole {
         let next = schedule.encrypt_block(xor_blocks(block_at(plain, j), &previous));
-        sealed.extend_from_slice(&next)?;
+        text.extend_from_slice(&next)?;
         previous = next;
     }
     let last = schedule.encrypt_block(xor_blocks(padded_block(&plain[16 * whole..]), &previous));
-    sealed.extend_from_slice(&last)?;
-    Ok(sealed)
+    text.extend_from_slice(&last)?;
+    Ok(())
 }
 
 /// The text that was sealed under this key and initialization vector.
 ///
-/// Bytes that `seal` gave open to the text that it was given.
+/// Bytes that `seal` gave open to the text that it was given, and what opens to a text is what
+/// `seal` gives for it.
 pub fn unseal(
     alloc: Global,
     schedule: &Schedule,
@@ -50,6 +68,7 @@ pub fn unseal(
     bytes: &[u8],
 ) -> Result<Vec<u8>, CbcError>
     ensures value { IfOk result (λ plain. Opens schedule.now iv.now bytes.now plain.items) }
+    ensures again { IfOk result (λ plain. bytes.now ≡ sealed schedule.now iv.now plain.items) }
     ensures shorter { IfOk result (λ plain. length plain.items < length bytes.now) }
     ensures length { IsErrOf result CbcError.Length ↔ HasNoWholeBlocks bytes.now }
     ensures padding { IsErrOf result CbcError.Padding

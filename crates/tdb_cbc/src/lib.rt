@@ -9,8 +9,6 @@ mod blocks;
 mod cbc;
 mod error;
 mod padding;
-#[cfg(test)]
-mod tests;
 
-pub use cbc::{seal, unseal};
+pub use cbc::{push_sealed, seal, unseal};
 pub use error::CbcError;

@@ -8,8 +8,6 @@
 
 mod key;
 mod mac;
-#[cfg(test)]
-mod tests;
 
 pub use key::{PreparedKey, derive};
 pub use mac::{Mac, hmac};

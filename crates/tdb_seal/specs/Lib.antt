@@ -1,1 +1,5 @@
+pub mod CipherKey
+pub mod CipherOf
+pub mod InitialVector
 pub mod SealedRecord
+pub mod SuiteKey

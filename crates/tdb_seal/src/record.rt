@@ -1,9 +1,9 @@
 //! The record of a plain text, its name, and how it is sealed and read.
-ghost use Rattle.std.specs.Prelude.{◌≡◌, ℕ, ◌≤◌, ◌++◌, List, IfOk, IfSome, IfNone, length};
-ghost use Rattle.tdb_base.specs.declared.suite.Suite.TheVariants.{Plain};
+ghost use Rattle.std.specs.Prelude.{◌≡◌, ℕ, ◌≤◌, List, IfOk, length};
 ghost use Rattle.tdb_seal.specs.declared.record.SealError.TheVariants.{Form, Memory};
-ghost use Rattle.tdb_seal.specs.SealedRecord.{IsInUse, record_head, plain_record, sealed_record, IsSealedRecord};
+ghost use Rattle.tdb_seal.specs.SealedRecord.{record_head, IsSealedRecord};
 
+use crate::key::{RecordKey, read_record_with, seal_record_with};
 use std::alloc::{AllocError, Global};
 use tdb_base::{Key, Suite, put_bytes, put_u32};
 use thiserror::Error;
@@ -11,10 +11,10 @@ use thiserror::Error;
 const MAGIC: [u8; 8] = *b"TDBREC01";
 
 /// The length of magic, name and lengths.
-const HEAD_LENGTH: usize = 32;
+pub(crate) const HEAD_LENGTH: usize = 32;
 
 /// The length of an initial vector.
-const VECTOR_LENGTH: usize = 16;
+pub(crate) const VECTOR_LENGTH: usize = 16;
 
 /// The greatest length of a plain text.
 pub const PLAIN_LIMIT: usize = 1_048_576;
@@ -53,7 +53,7 @@ impl From<AllocError> for SealError {
 }
 
 /// What stands in front of the initial vector.
-fn head_of(name: &Name, plain_length: u32, body_length: u32) -> [u8; 32]
+pub(crate) fn head_of(name: &Name, plain_length: u32, body_length: u32) -> [u8; 32]
     ensures { result ≡ record_head name.now plain_length body_length }
 {
     let mut head = [0; HEAD_LENGTH];
@@ -67,57 +67,18 @@ fn head_of(name: &Name, plain_length: u32, body_length: u32) -> [u8; 32]
     head
 }
 
-fn seal_plain(alloc: Global, name: &Name, plain: &[u8]) -> Result<Vec<u8>, AllocError>
-    requires { length plain.now ≤ 1048576 }
-    ensures { IfOk result (λ bytes. bytes.items ≡ plain_record name.now plain.now) }
-{
-    let length = plain.len() as u32;
-    let mut bytes = Vec::with_capacity(alloc, HEAD_LENGTH + VECTOR_LENGTH + plain.len())?;
-    bytes.extend_from_slice(&head_of(name, length, length))?;
-    bytes.extend_from_slice(&[0; VECTOR_LENGTH])?;
-    bytes.extend_from_slice(plain)?;
-    Ok(bytes)
-}
-
-/// The plain text of a record that isn't enciphered, or `None` where the bytes are no such
-/// record of the name.
-fn open_plain<'a>(name: &Name, bytes: &'a [u8]) -> Option<&'a [u8]>
-    ensures some { IfSome result (λ plain. (length plain.now ≤ 1048576) × (bytes.now ≡ plain_record name.now plain.now)) }
-    ensures none { IfNone result ((plain : List ℕ) → length plain ≤ 1048576 → bytes.now ≡ plain_record name.now plain → ⊥) }
-{
-    if bytes.len() < HEAD_LENGTH + VECTOR_LENGTH {
-        return None;
-    }
-    let (head, rest) = bytes.split_at(HEAD_LENGTH);
-    let (vector, plain) = rest.split_at(VECTOR_LENGTH);
-    if plain.len() > PLAIN_LIMIT {
-        return None;
-    }
-    let length = plain.len() as u32;
-    let expected = head_of(name, length, length);
-    if head == expected.as_slice() && vector == [0; VECTOR_LENGTH].as_slice() {
-        Some(plain)
-    } else {
-        None
-    }
-}
-
-/// The record of a plain text under a key and a name: 48 bytes more than the text. It is sealed
-/// under the suite of the name.
+/// The record of a plain text under a key and a name, sealed under the suite of the name. It is 48
+/// bytes longer than the text's body: the text itself, or its whole blocks with the padding.
 pub fn seal_record(
     alloc: Global,
     key: &Key,
     name: &Name,
     plain: &[u8],
 ) -> Result<Vec<u8>, AllocError>
-    requires size { length plain.now ≤ 1048576 }
-    requires suite { IsInUse name.now.suite }
-    ensures { IfOk result (λ bytes. bytes.items ≡ sealed_record key.now.0 name.now plain.now) }
+    requires size { length plain.now ≤ PLAIN_LIMIT }
+    ensures { IfOk result (λ bytes. IsSealedRecord key.now.0 name.now plain.now bytes.items) }
 {
-    match name.suite {
-        Suite::Plain => seal_plain(alloc, name, plain),
-        Suite::Aes128 | Suite::Aes256 => unreachable!(),
-    }
+    seal_record_with(alloc, &RecordKey::new(key, name.suite), name, plain)
 }
 
 /// The plain text whose record the bytes are, under a key and a name.
@@ -130,81 +91,5 @@ pub fn read_record(
     ensures found { IfOk result (λ plain. IsSealedRecord key.now.0 name.now plain.items bytes.now) }
     ensures form { result ≡ Err Form → (plain : List ℕ) → IsSealedRecord key.now.0 name.now plain bytes.now → ⊥ }
 {
-    match name.suite {
-        Suite::Plain => {
-            let Some(plain) = open_plain(name, bytes) else {
-                return Err(SealError::Form);
-            };
-            Ok(Vec::from_slice(alloc, plain)?)
-        }
-        Suite::Aes128 | Suite::Aes256 => Err(SealError::Form),
-    }
-}
-
-#[cfg(test)]
-mod tests {
-    use super::*;
-    use std::test::Fail;
-
-    /// The name of the first note's chunk.
-    const NOTE: Name = Name {
-        kind: 1,
-        suite: Suite::Plain,
-        home: 1,
-        rank: 1,
-    };
-
-    /// Its record, as an independent model of the format has it. The plain text begins at 48.
-    const NOTE_RECORD: [u8; 69] = [
-        0x54, 0x44, 0x42, 0x52, 0x45, 0x43, 0x30, 0x31, 0x00, 0x00, 0x00, 0x01, 0x00, 0x00, 0x00,
-        0x00, 0x00, 0x00, 0x00, 0x01, 0x00, 0x00, 0x00, 0x01, 0x00, 0x00, 0x00, 0x15, 0x00, 0x00,
-        0x00, 0x15, 0x00, 0x00, 0x00, 0x00, 0x00, 0x00, 0x00, 0x00, 0x00, 0x00, 0x00, 0x00, 0x00,
-        0x00, 0x00, 0x00, 0x00, 0x00, 0x00, 0x00, 0x00, 0x00, 0x00, 0x01, 0x00, 0x00, 0x00, 0x01,
-        0x00, 0x00, 0x00, 0x05, 0x68, 0x65, 0x6c, 0x6c, 0x6f,
-    ];
-
-    #[test]
-    fn the_record_of_the_first_note_is_sealed_and_read_back(rt: HostRuntime) -> Result<(), Fail> {
-        let key = Key([7; 32]);
-        let record = NOTE_RECORD;
-        let plain = &record[48..];
-        let bytes = seal_record(rt.alloc(), &key, &NOTE, plain)?;
-        assert_eq!(rt; bytes.as_slice(), NOTE_RECORD.as_slice());
-        assert_eq!(rt;
-            read_record(rt.alloc(), &key, &NOTE, &record)?.as_slice(),
-            plain
-        );
-        Ok(())
-    }
-
-    #[test]
-    fn a_record_is_48_bytes_longer_than_its_plain_text(rt: HostRuntime) -> Result<(), Fail> {
-        let key = Key([7; 32]);
-        let plain = [0; 1_456];
-        for (length, sealed) in [(0, 48), (21, 69), (88, 136), (528, 576), (1_456, 1_504)] {
-            if length <= plain.len() {
-                let bytes = seal_record(rt.alloc(), &key, &NOTE, &plain[..length])?;
-                assert_eq!(rt; bytes.len(), sealed);
-            }
-        }
-        Ok(())
-    }
-
-    #[test]
-    fn another_name_or_length_is_refused(rt: HostRuntime) {
-        let key = Key([7; 32]);
-        // the place of a byte that is changed to 9
-        for at in [0, 11, 15, 19, 23, 27, 31, 47] {
-            let mut bytes = NOTE_RECORD;
-            bytes[at] = 9;
-            let read = read_record(rt.alloc(), &key, &NOTE, &bytes);
-            assert!(rt; matches!(read, Err(SealError::Form)), "at {at}");
-        }
-        let ciphered = Name {
-            suite: Suite::Aes128,
-            ..NOTE
-        };
-        let read = read_record(rt.alloc(), &key, &ciphered, &NOTE_RECORD);
-        assert!(rt; matches!(read, Err(SealError::Form)));
-    }
+    read_record_with(alloc, &RecordKey::new(key, name.suite), name, bytes)
 }

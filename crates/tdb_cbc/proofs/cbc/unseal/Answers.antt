@@ -3,7 +3,7 @@ use Rattle.std.proofs.lemmas.Bool.{both_ways, eq-eqb}
 use Rattle.tdb_aes.proofs.StateLaws.{IsState-from_bytes}
 use Rattle.tdb_cbc.specs.Padding.{padding_length}
 use Rattle.tdb_cbc.specs.Sealed.{HasNoWholeBlocks}
-use Rattle.tdb_cbc.proofs.CbcLaws.{length-opens, opens-cut, opens-ends}
+use Rattle.tdb_cbc.proofs.CbcLaws.{length-opens, opens-cut, opens-ends, sealed-opens}
 use Rattle.tdb_cbc.proofs.cbc.unseal.Goals as goal
 
 pub returns-in_default-clause-padding : goal.returns-in_default-clause-padding
@@ -57,4 +57,9 @@ returns-clause-padding c = (λ same. absurd (cc), λ held. absurd (held.1 _ (ret
 pub returns-clause-shorter : goal.returns-clause-shorter
 returns-clause-shorter c =
     length-opens c.args.schedule.now c.args.iv.now c.args.bytes.now c.in_ok-plain.plain.items
+    (IsState-from_bytes c.args.iv.now c.told-iv c.fits-iv) (λ k. omega (arith, c.type_inv.bytes k)) (returns-clause-value c)
+
+pub returns-clause-again : goal.returns-clause-again
+returns-clause-again c =
+    sealed-opens c.args.schedule.now c.args.iv.now c.args.bytes.now c.in_ok-plain.plain.items
     (IsState-from_bytes c.args.iv.now c.told-iv c.fits-iv) (λ k. omega (arith, c.type_inv.bytes k)) (returns-clause-value c)

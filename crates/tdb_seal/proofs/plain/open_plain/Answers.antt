@@ -1,10 +1,10 @@
-use Rattle.std.proofs.Common.{◌≡◌, ◌+◌, ◌++◌, ℕ, List, length, replicate, arith, ap, sym, ◌∙◌, length-append}
+use Rattle.std.proofs.Common.{◌≡◌, ◌++◌, ℕ, List, length, replicate, arith, ap, sym, ◌∙◌}
 use Rattle.std.proofs.lemmas.Bool.Decides.{Decides-eqb}
 use Rattle.std.proofs.lemmas.Slice.Eq.{slice_eq-Decides}
-use Rattle.tdb_seal.specs.SealedRecord.{record_head, plain_record}
+use Rattle.tdb_seal.specs.SealedRecord.{record_head}
 use Rattle.tdb_seal.proofs.RecordSpelling.{parts_of, whole, length-plain_record}
-use Rattle.tdb_seal.proofs.record.open_plain.Goals as goal
-use Rattle.tdb_seal.proofs.record.open_plain.Goals.{else-eq-via-then-eq+else-eq-2, else-eq-via-else-eq}
+use Rattle.tdb_seal.proofs.plain.open_plain.Goals as goal
+use Rattle.tdb_seal.proofs.plain.open_plain.Goals.{else-eq-via-then-eq+else-eq-2, else-eq-via-else-eq}
 
 pub returns-then-bytes-clause-none : goal.returns-then-bytes-clause-none
 returns-then-bytes-clause-none c plain size spelled =
