@@ -1,5 +1,5 @@
 -- The bytes of a table are those of one table.
-use Rattle.std.proofs.Common.{◌≡◌, ℕ, zero, suc, ◌+◌, ◌*◌, ◌^◌, ◌<◌, ◌≤◌, List, [], ◌∷◌, ◌++◌, length, get_or, replicate, inl, inr, refl, sym, ap, ◌∙◌, arith}
+use Rattle.std.proofs.Common.{◌≡◌, ℕ, suc, ◌*◌, ◌^◌, ◌<◌, List, [], ◌∷◌, ◌++◌, length, get_or, replicate, inl, inr, refl, sym, ap, ◌∙◌, arith}
 use Rattle.std.specs.Prelude.{codes}
 use Rattle.std.specs.List.{flat_map}
 use Rattle.std.specs.Int.{w32, w64, to_be_bytes}
@@ -7,7 +7,7 @@ use Rattle.std.proofs.lemmas.Bool.{cases_lt}
 use Rattle.std.proofs.lemmas.List.{get_or-replicate, get_or_past, length-replicate}
 use Rattle.tdb_base.proofs.SameFields.{same_front, same_u32, same_u64}
 use Rattle.tdb_node.specs.declared.table.Table.{Table}
-use Rattle.tdb_node.specs.SegmentTable.{table_bytes, IsTable, IsTableValue, IsSegmentTable}
+use Rattle.tdb_node.specs.SegmentTable.{table_bytes, IsTableValue, IsSegmentTable}
 
 abbrev words : List ℕ → List ℕ
 words ns = flat_map (to_be_bytes w64) ns

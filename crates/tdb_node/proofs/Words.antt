@@ -1,5 +1,5 @@
 -- A table by its words: no word has a bit from the number of segments on.
-use Rattle.std.proofs.Common.{◌≡◌, ℕ, ◌+◌, ◌-◌, ◌*◌, ◌/◌, ◌%◌, ◌^◌, ◌<◌, ◌≤◌, ◌≢◌, length, get_or, inl, inr, sym, subst, ap, ◌∙◌, arith, refl}
+use Rattle.std.proofs.Common.{◌≡◌, ℕ, ◌+◌, ◌-◌, ◌*◌, ◌/◌, ◌%◌, ◌^◌, ◌<◌, ◌≤◌, get_or, inl, inr, subst, ap, ◌∙◌, arith}
 use Rattle.std.specs.Int.{w64, bit_at}
 use Rattle.std.proofs.Math.Nat.{div-lt_iff_lt-mul, div-le_self}
 use Rattle.std.proofs.lemmas.Bool.{cases_lt}

@@ -1,1 +1,3 @@
+pub mod Leader
+pub mod Node
 pub mod SegmentTable

@@ -1,5 +1,8 @@
 //! Why a node, a leader or a table could not be read.
+ghost use Rattle.std.specs.Prelude.{◌≡◌};
+ghost use Rattle.tdb_node.specs.declared.error.NodeError.TheVariants.{Memory};
 
+use std::alloc::AllocFailed;
 use thiserror::Error;
 
 /// A record of the map that wasn't read.
@@ -11,4 +14,12 @@ pub enum NodeError {
     /// Memory ran out. Only readers that take memory answer this.
     #[error("memory ran out")]
     Memory,
+}
+
+impl<T: Drop> From<AllocFailed<T>> for NodeError {
+    ghost from_gives = { λ _ error. error ≡ Memory };
+
+    fn from(_error: AllocFailed<T>) -> NodeError {
+        NodeError::Memory
+    }
 }

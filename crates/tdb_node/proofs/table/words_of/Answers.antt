@@ -1,4 +1,4 @@
-use Rattle.std.proofs.Common.{arith, rules}
+use Rattle.std.proofs.Common.{rules}
 use Rattle.tdb_node.proofs.TableSpelling.{zeros_fit}
 use Rattle.tdb_node.proofs.table.words_of.Goals as goal
 
