@@ -1,0 +1,20 @@
+use Rattle.std.proofs.Common.{◌+◌, ◌-◌, ◌*◌}
+use Rattle.tdb_map.specs.Shown.{Shows}
+use Rattle.tdb_map.specs.Nodes.{Grows, nodes_of}
+use Rattle.tdb_map.specs.Tree.{node_count, HasNode}
+use Rattle.tdb_map.specs.Walk.{HasWalkedSome}
+use Rattle.tdb_map.proofs.walking.+walk_below.Given as goal
+
+abbrev pub decreases-walk_below : goal.decreases-walk_below
+decreases-walk_below g l = l.height
+
+abbrev pub invariant-loop-digit : goal.invariant-loop-digit
+invariant-loop-digit g l =
+    let texts = g.P.Pieces.texts in
+    let shown = g.P.Pieces.shown in
+    record {
+      grows : Grows (texts l.fn.pieces) (texts l.pieces);
+      node : HasNode (nodes_of (texts l.pieces) l.tree) (l.height - 1) l.number l.fn.root l.node.value.entries;
+      shows : Shows (shown l.fn.pieces) (shown l.pieces) (1 + l.digit * node_count (l.height - 1));
+      walked : HasWalkedSome (nodes_of (texts l.pieces) l.tree) (l.height - 1) (l.number * 64) (l.number * 64 + l.digit) l.node.value.entries l.fn.found.items l.found.items;
+    }

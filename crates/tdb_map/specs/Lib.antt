@@ -1,0 +1,11 @@
+pub mod Shown
+pub mod PieceCause
+pub mod Nodes
+pub mod Tree
+pub mod TreeCause
+pub mod Walk
+pub mod Edits
+pub mod Laid
+pub mod Rewritten
+pub mod Updated
+pub mod UpdateCause
