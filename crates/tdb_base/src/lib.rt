@@ -15,8 +15,6 @@ mod names;
 mod piece;
 mod piece_fields;
 mod suite;
-#[cfg(test)]
-mod tests;
 
 pub use bytes::Bytes;
 pub use decimal::{push_decimal, read_decimal};

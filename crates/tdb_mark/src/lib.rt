@@ -8,8 +8,6 @@
 
 mod commit;
 mod laws;
-#[cfg(test)]
-mod tests;
 mod text;
 
 pub use commit::{CHECKPOINT, COMMIT, Commit};

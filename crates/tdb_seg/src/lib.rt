@@ -8,8 +8,6 @@
 #![tactic(auto)]
 
 mod segments;
-#[cfg(test)]
-mod tests;
 mod used;
 
 pub use segments::Segments;

@@ -1,10 +1,10 @@
 //! Places that were worked out by hand from the rule and the sizes of records.
 ghost use Rattle.std.specs.Prelude.{◌≡◌, slice_index};
 
-use crate::Segments;
 use std::test::Fail;
 use tdb_base::{Digest, NoRoom, Piece, Place};
 use tdb_node::Table;
+use tdb_seg::Segments;
 
 /// What placing answers, for a length of 1 to 262,144 bytes.
 fn outcome(segments: &mut Segments, length: u32, keep: u32) -> Result<Place, NoRoom> {

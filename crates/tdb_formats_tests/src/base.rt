@@ -1,9 +1,9 @@
-use crate::{
+use std::test::Fail;
+use tdb_base::{
     Bytes, Digest, Piece, Place, Suite, bytes32_at, entry_at, piece_at, push_bytes, push_decimal,
     push_u32, push_u64, put_bytes, put_bytes32, put_entry, put_piece, put_u32, put_u64,
     read_decimal, take_bytes, take_u32, take_u64, u32_at, u64_at,
 };
-use std::test::Fail;
 
 #[test]
 fn fields_are_taken_where_all_their_bytes_stand(rt: HostRuntime) {
@@ -143,7 +143,9 @@ fn an_entry_is_the_number_one_and_a_piece_or_zeros(rt: HostRuntime) {
     );
     assert!(rt;
         &text[18..]
-            == b"\xdd\xdd\xdd\xdd\xdd\xdd\xdd\xdd\xdd\xdd\xdd\xdd\xdd\xdd\xdd\xdd\xdd\xdd\xdd\xdd\xdd\xdd\xdd\xdd\xdd\xdd\xdd\xdd\xdd\xdd\xdd\xdd\x07\x07".as_slice()
+            == b"\xdd\xdd\xdd\xdd\xdd\xdd\xdd\xdd\xdd\xdd\xdd\xdd\xdd\xdd\xdd\xdd\
+            \xdd\xdd\xdd\xdd\xdd\xdd\xdd\xdd\xdd\xdd\xdd\xdd\xdd\xdd\xdd\xdd\x07\x07"
+                .as_slice()
     );
     assert!(rt; entry_at(&text, 2) == Some(piece));
     put_entry(&mut text, 2, &None);
