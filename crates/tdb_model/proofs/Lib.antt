@@ -4,5 +4,7 @@ pub mod HistoryLemmas
 pub mod MapLemmas
 pub mod MemoryLemmas
 pub mod ParentLemmas
+pub mod Passing
 pub mod RangeLemmas
+pub mod RefusalLemmas
 pub mod StateLemmas

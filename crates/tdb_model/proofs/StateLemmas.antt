@@ -76,6 +76,17 @@ pub cloned_chunks : (m n : BTreeMap ℕ (Vec ℕ)) → AllZip (λ e f. (f.0 ≡ 
     → seen_as chunk_bytes n ≡ seen_as chunk_bytes m
 cloned_chunks m n is = ap (λ (es : List (ℕ × List ℕ)). from_entries es) (cloned_entries m.entries n.entries is)
 
+same_entries : (es fs : List (ℕ × KeptPartition)) → AllZip (λ e f. (f.0 ≡ e.0) × (partition_of f.1 ≡ partition_of e.1)) es fs
+    → map {B = ℕ × Partition} (λ e. (e.0, partition_of e.1)) fs ≡ map {B = ℕ × Partition} (λ e. (e.0, partition_of e.1)) es
+same_entries [] [] is = refl
+same_entries [] (f ∷ fs) is = absurd is
+same_entries (e ∷ es) [] is = absurd is
+same_entries (e ∷ es) (f ∷ fs) is = λ i. (is.0.0 i, is.0.1 i) ∷ same_entries es fs is.1 i
+
+-- clones of the partitions are the same state
+pub cloned_state : (m n : BTreeMap ℕ KeptPartition) → AllZip (λ e f. (f.0 ≡ e.0) × (partition_of f.1 ≡ partition_of e.1)) m.entries n.entries → state_in n ≡ state_in m
+cloned_state m n is = ap (λ (es : List (ℕ × Partition)). from_entries es) (same_entries m.entries n.entries is)
+
 pub on_err_weaker : {T E P Q : Type 0} (r : Result T E) → (P → Q) → OnErr r P → OnErr r Q
 on_err_weaker (Ok x) f is = is
 on_err_weaker (Err e) f is = f is

@@ -16,3 +16,7 @@ chunk_limit = 65536
 -- a commit has at most 1,024 changes
 abbrev pub change_limit : ℕ
 change_limit = 1024
+
+-- counts are 0 to 18,446,744,073,709,551,615
+abbrev pub count_limit : ℕ
+count_limit = 18446744073709551615

@@ -8,16 +8,21 @@
 
 mod change;
 mod checking;
+mod chunks;
 mod error;
 mod laws;
 mod memory;
+mod memory_chunks;
 #[cfg(test)]
 mod tests;
 
 pub use change::{CHANGE_LIMIT, CHUNK_LIMIT, Change, PARTITION_LIMIT, PartInfo, RANK_LIMIT, Side};
+pub use checking::{Partitions, check_each};
+pub use chunks::Chunks;
 pub use error::{CommitError, ReadError, SaveError};
 pub use laws::{
     copies_are_frozen, first_commits, free_of_no_chunk_changes_nothing, history_goes_on,
     no_test_reads_a_count, ranges_are_kept,
 };
 pub use memory::MemoryState;
+pub use memory_chunks::MemoryChunks;

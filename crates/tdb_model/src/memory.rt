@@ -4,11 +4,13 @@ ghost use Rattle.std.specs.FinMap as map;
 ghost use Rattle.std.specs.Option.{option_map, option_copied};
 ghost use Rattle.tdb_model.specs.Apply.{with_chunk, without_chunk, made, copied, with_partition, apply, apply_all};
 ghost use Rattle.tdb_model.specs.Check.{check};
-ghost use Rattle.tdb_model.specs.Lookup.{parent_at, info_of, chunk_at};
+ghost use Rattle.tdb_model.specs.HasListed.{infos_of};
+ghost use Rattle.tdb_model.specs.Lookup.{info_of, chunk_at};
 ghost use Rattle.tdb_model.specs.Memory.{partition_of, IsRankInRange};
 ghost use Rattle.tdb_model.specs.State.{no_partitions};
 
 use crate::change::{Change, PartInfo};
+use crate::checking::Partitions;
 use std::alloc::{AllocError, Global};
 use std::collections::BTreeMap;
 use std::marker::Model;
@@ -43,6 +45,22 @@ impl Model for MemoryState {
     ghost view = { λ a. state_in a.partitions };
 }
 
+impl Clone for KeptPartition {
+    ghost is_clone = { λ p q. partition_of q ≡ partition_of p };
+
+    fn clone(&self) -> Result<KeptPartition, AllocError> {
+        Ok(KeptPartition {
+            suite: self.suite,
+            home: self.home,
+            birth: self.birth,
+            next: self.next,
+            parent: self.parent,
+            born: self.born,
+            chunks: self.chunks.clone()?,
+        })
+    }
+}
+
 impl KeptPartition {
     /// Sets the bytes at a rank.
     fn write(&mut self, rank: u32, bytes: Vec<u8>) -> Result<(), AllocError>
@@ -72,19 +90,28 @@ impl KeptPartition {
         }
     }
 
+    /// What is told of it under its number.
+    fn info(&self, part: PartId) -> PartInfo
+        ensures { result ≡ info_of part (partition_of self.now) }
+    {
+        let next = self.next;
+        PartInfo {
+            part,
+            suite: self.suite,
+            parent: PartId(self.parent),
+            born: self.born,
+            next,
+        }
+    }
+
     /// A copy of this partition, which has the number `from`, by the commit with that count.
     fn copy(&self, from: u32, count: u64) -> Result<KeptPartition, AllocError>
         ensures { IfOk result (λ copy. partition_of copy ≡ copied count from (partition_of self.now)) }
     {
-        Ok(KeptPartition {
-            suite: self.suite,
-            home: self.home,
-            birth: self.birth,
-            next: self.next,
-            parent: from,
-            born: count,
-            chunks: self.chunks.clone()?,
-        })
+        let mut copy = self.clone()?;
+        copy.parent = from;
+        copy.born = count;
+        Ok(copy)
     }
 }
 
@@ -98,28 +125,12 @@ impl MemoryState {
         }
     }
 
-    /// The parent of a partition, 0 where it was made, and none where it isn't there.
-    pub(crate) fn parent(&self, part: PartId) -> Option<u32>
-        ensures { result ≡ parent_at self.now part.0 }
-    {
-        match self.partitions.get(&part.0) {
-            Some(partition) => Some(partition.parent),
-            None => None,
-        }
-    }
-
     /// What is told of a partition, or `None` where it isn't there. It takes no memory.
     pub fn info(&self, part: PartId) -> Option<PartInfo>
         ensures { result ≡ option_map (info_of part) (map.get self.now part.0) }
     {
         match self.partitions.get(&part.0) {
-            Some(partition) => Some(PartInfo {
-                part,
-                suite: partition.suite,
-                parent: PartId(partition.parent),
-                born: partition.born,
-                next: partition.next,
-            }),
+            Some(partition) => Some(partition.info(part)),
             None => None,
         }
     }
@@ -133,6 +144,40 @@ impl MemoryState {
             Some(partition) => partition.chunk(rank.0),
             None => None,
         }
+    }
+
+    /// What is told of each partition, by number.
+    pub fn partitions(&self, alloc: Global) -> Result<Vec<PartInfo>, AllocError>
+        ensures { IfOk result (λ infos. infos.items ≡ infos_of self.now) }
+    {
+        let mut infos = Vec::new(alloc);
+        for (part, partition) in self.partitions.iter() {
+            infos.push(partition.info(PartId(*part)))?;
+        }
+        Ok(infos)
+    }
+
+    /// The database after a commit with this count and these changes. This one stays as it is.
+    pub fn changed(
+        &self,
+        alloc: Global,
+        count: u64,
+        changes: &[Change],
+    ) -> Result<MemoryState, AllocError>
+        requires passes { check self.now changes.now ≡ None }
+        ensures { IfOk result (λ next. next ≡ apply_all count self.now changes.now) }
+    {
+        let mut next = self.copied()?;
+        next.apply(alloc, count, changes)?;
+        Ok(next)
+    }
+
+    fn copied(&self) -> Result<MemoryState, AllocError>
+        ensures { IfOk result (λ copy. copy ≡ self.now) }
+    {
+        Ok(MemoryState {
+            partitions: self.partitions.clone()?,
+        })
     }
 
     /// Applies the changes of a commit with this count. Where memory runs out the changes before
@@ -223,5 +268,16 @@ impl MemoryState {
         ensures { self.new ≡ map.remove self.old part }
     {
         let _dropped = self.partitions.remove(&part);
+    }
+}
+
+impl Partitions for MemoryState {
+    ghost state = { λ s. s };
+
+    fn parent(&self, part: PartId) -> Option<u32> {
+        match self.partitions.get(&part.0) {
+            Some(partition) => Some(partition.parent),
+            None => None,
+        }
     }
 }

@@ -1,10 +1,6 @@
-use Rattle.std.proofs.Common.{◌≡◌}
-use Rattle.tdb_model.specs.Memory.{seen_as, chunk_bytes}
-use Rattle.tdb_model.proofs.StateLemmas.{cloned_chunks}
+use Rattle.std.proofs.Common.{ap}
+use Rattle.tdb_model.specs.Apply.{copied}
 use Rattle.tdb_model.proofs.memory.KeptPartition.copy.Goals as goal
 
 pub returns : goal.returns
-returns c =
-    let old = c.args.self.now in
-    let chunks : seen_as chunk_bytes c.in_ok-clone.field-0 ≡ seen_as chunk_bytes old.chunks = cloned_chunks old.chunks c.in_ok-clone.field-0 c.in_ok-clone.ensures.cases in
-    λ i. record { suite = old.suite; home = old.home; birth = old.birth; next = old.next; parent = c.args.from; born = c.args.count; chunks = chunks i }
+returns c = ap (copied c.args.count c.args.from) c.in_ok-copy.ensures.cases

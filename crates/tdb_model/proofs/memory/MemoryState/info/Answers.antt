@@ -9,7 +9,7 @@ use Rattle.tdb_model.proofs.memory.MemoryState.info.Goals as goal
 pub returns-in-Some : goal.returns-in-Some
 returns-in-Some c =
     let there : tree.get nat_cmp c.self.inside.partitions c.args.part.0 ≡ Some c.in-Some.partition.now = sym c.get.ensures.value ∙ ap option_copied c.in-Some.is in
-    sym (ap (option_map (info_of c.args.part)) (found_in c.self.inside.partitions c.args.self.now c.args.part.0 (Some c.in-Some.partition.now) c.self.view_is there))
+    ap Some c.info.ensures ∙ sym (ap (option_map (info_of c.args.part)) (found_in c.self.inside.partitions c.args.self.now c.args.part.0 (Some c.in-Some.partition.now) c.self.view_is there))
 
 pub returns-in-None : goal.returns-in-None
 returns-in-None c =

@@ -4,7 +4,7 @@ use Rattle.std.specs.Option.{option_copied}
 use Rattle.std.specs.Ordering.{nat_cmp}
 use Rattle.tdb_model.specs.Lookup.{parent_of}
 use Rattle.tdb_model.proofs.StateLemmas.{found_in}
-use Rattle.tdb_model.proofs.memory.MemoryState.parent.Goals as goal
+use Rattle.tdb_model.proofs.memory.MemoryStatePartitions.parent.Goals as goal
 
 pub returns-in-Some : goal.returns-in-Some
 returns-in-Some c =

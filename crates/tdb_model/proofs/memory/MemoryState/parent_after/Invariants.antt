@@ -1,7 +1,0 @@
-use Rattle.std.proofs.Common.{◌≡◌, take}
-use Rattle.tdb_model.specs.Apply.{apply_all}
-use Rattle.tdb_model.specs.Lookup.{parent_at}
-use Rattle.tdb_model.proofs.memory.MemoryState.parent_after.Given as goal
-
-abbrev pub invariant-loop-change : goal.invariant-loop-change
-invariant-loop-change l = l.parent ≡ parent_at (apply_all 0 l.self (take l.change-index l.earlier)) l.part.0
