@@ -113,13 +113,13 @@ module _ (f : Finds) (store : Store) where
   count_from before (c ∷ chain) history last is = omega (arith, adds_one before c is.0 is.1 is.3.adds, count_from is.1 chain is.2 last is.4)
 
   -- The last count is the number of the texts.
-  pub log_count : (chain : List Commit) (history : History) (last : StoreState) → IsLogOf f store (first_state store) chain history last → last.count ≡ length chain
-  log_count chain history last is = omega (arith, count_from (first_state store) chain history last is)
+  pub log_count : (chain : List Commit) (history : History) (last : StoreState) → IsLogOf f store first_state chain history last → last.count ≡ length chain
+  log_count chain history last is = omega (arith, count_from first_state chain history last is)
 
   -- A log of some texts has a checkpoint, and at most 1,000 commits behind the last one.
-  pub log_counts : (chain : List Commit) (history : History) (last : StoreState) → 1 ≤ length chain → AllByRecursion IsInFormat chain → IsLogOf f store (first_state store) chain history last → LogCounts chain last
+  pub log_counts : (chain : List Commit) (history : History) (last : StoreState) → 1 ≤ length chain → AllByRecursion IsInFormat chain → IsLogOf f store first_state chain history last → LogCounts chain last
   log_counts [] history last some formats is = absurd (omega (arith, some))
-  log_counts (c ∷ chain) history last some formats is = counts_from f store (first_state store) c chain history last (omega arith) formats is
+  log_counts (c ∷ chain) history last some formats is = counts_from f store first_state c chain history last (omega arith) formats is
 
 format_last : (chain : List Commit) (c : Commit) → AllByRecursion IsInFormat chain → IsInFormat c → AllByRecursion IsInFormat (chain ++ c ∷ [])
 format_last [] c all last = (last, tt)

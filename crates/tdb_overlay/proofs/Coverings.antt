@@ -21,7 +21,7 @@ use Rattle.tdb_overlay.specs.Covering.{Covered, Covers, no_covers, suite_numbere
 use Rattle.tdb_overlay.specs.Found.{Finds}
 use Rattle.tdb_overlay.specs.Keys.{partition_key}
 use Rattle.tdb_overlay.specs.Log.{IsOfPartition, IsOwned, AreOwned}
-use Rattle.tdb_overlay.proofs.LogLaws.{Finer}
+use Rattle.tdb_overlay.specs.Found.{Finer}
 
 pub noted_all-push : (count : ℕ) (covers : Covers) (entries : List Entry) (e : Entry) → noted_all count covers (entries ++ e ∷ []) ≡ noted count (noted_all count covers entries) e
 noted_all-push count covers [] e = refl

@@ -15,8 +15,8 @@ use Rattle.tdb_model.specs.declared.change.Change.{Change}
 use Rattle.tdb_model.specs.declared.change.Change.TheVariants.{Write, Free, Make, Copy, Drop}
 use Rattle.std.specs.FinMap.{get}
 use Rattle.tdb_seal.specs.declared.record.Name.{Name}
-use Rattle.tdb_seal.specs.SealedRecord.{IsInUse, IsSealedRecord, sealed_under}
-use Rattle.tdb_seal.proofs.RecordSpelling.{length-plain_record}
+use Rattle.tdb_seal.specs.SealedRecord.{IsSealedRecord, body_length}
+use Rattle.tdb_seal.proofs.RecordSpelling.{length-sealed_record}
 use Rattle.tdb_overlay.specs.Changes.{IsWritten, IsChangeOf, AreChangesOf, HasChanges, named_records}
 use Rattle.tdb_overlay.specs.Found.{Finds, Store, in_trace}
 use Rattle.tdb_overlay.specs.Log.{IsOfPartition, IsOwned, AreOwned}
@@ -31,14 +31,14 @@ IsSized finds = (piece : Piece) (bytes : List ℕ) → finds piece bytes → pie
 pub trace_sized : (written : List WrittenPiece) → IsSized (in_trace written)
 trace_sized written piece bytes found = found.1
 
-length_under : (suite : Suite) → IsInUse suite → (key : List ℕ) (name : Name) (plain bytes : List ℕ) → bytes ≡ sealed_under suite key name plain → length bytes ≡ record_length suite (length plain)
-length_under Plain used key name plain bytes spelled = ap length spelled ∙ length-plain_record name plain
-length_under Aes128 used key name plain bytes spelled = absurd used
-length_under Aes256 used key name plain bytes spelled = absurd used
+length_as : (suite : Suite) (n : ℕ) → 48 + body_length suite n ≡ record_length suite n
+length_as Plain n = refl
+length_as Aes128 n = refl
+length_as Aes256 n = refl
 
 -- the length of a sealed record
 pub sealed_length : (key : List ℕ) (name : Name) (plain bytes : List ℕ) → IsSealedRecord key name plain bytes → length bytes ≡ record_length name.suite (length plain)
-sealed_length key name plain bytes is = length_under name.suite is.suite key name plain bytes is.spelled
+sealed_length key name plain bytes is = length-sealed_record key name plain bytes is ∙ length_as name.suite (length plain)
 
 -- the records of a list, and none for an entry that is no write
 abbrev records_as : ℕ → Entry → List Entry → List Piece

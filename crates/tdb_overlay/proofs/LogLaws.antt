@@ -1,7 +1,7 @@
 -- A log stays as more is written, becomes longer by a text, and leads to the state of its history.
-use Rattle.std.proofs.Common.{◌≡◌, inl, inr, ◌+◌, ◌==◌, ℕ, Bool, true, false, cond, List, [], ◌∷◌, ◌++◌, Option, Some, None, Result, Ok, Err, refl, sym, ◌∙◌, ap, subst, append-nil, append_assoc}
+use Rattle.std.proofs.Common.{◌≡◌, inl, inr, ⊎_elim, ◌+◌, ◌==◌, ℕ, Bool, true, false, cond, List, [], ◌∷◌, ◌++◌, Option, Some, None, Result, Ok, Err, refl, sym, ◌∙◌, ap, subst, append-nil, append_assoc}
 use Rattle.std.proofs.lemmas.Bool.{false≢true, eq-eqb}
-use Rattle.tdb_base.specs.declared.piece.Piece.{Piece}
+use Rattle.std.proofs.lemmas.Option.{same_Some}
 use Rattle.tdb_base.specs.declared.piece.Place.{Place}
 use Rattle.tdb_base.specs.declared.piece.NoRoom as refusals
 use Rattle.tdb_base.specs.Trace.{WrittenPiece}
@@ -19,18 +19,19 @@ use Rattle.tdb_model.specs.Check.{check_commit}
 use Rattle.tdb_model.specs.State.{State}
 use Rattle.tdb_platform.specs.Outside.{Anchor}
 use Rattle.tdb_seg.specs.SegmentSpace.{SegmentSpace}
+use Rattle.tdb_overlay.proofs.CheckpointLaws.{reached_before, tree_stays}
 use Rattle.tdb_overlay.specs.Changes.{IsChangeOf, AreChangesOf, HasChanges, HasTable}
-use Rattle.tdb_overlay.specs.Found.{Finds, Store, in_trace}
+use Rattle.tdb_overlay.specs.Found.{Finds, FindsOne, Finer, Store, in_trace}
 use Rattle.tdb_overlay.specs.Log.{IsCommitOn, IsCheckpointOn, Adds, IsStep, IsLogOf, IsLog}
 use Rattle.tdb_overlay.specs.StoreState.{StoreState, first_state, commit_fits, commit_on, committed, where_placed, where_passed}
-
--- what one finding finds, another one finds too
-abbrev pub Finer : Finds → Finds → Type 0
-Finer f g = (piece : Piece) (bytes : List ℕ) → f piece bytes → g piece bytes
 
 -- a longer trace finds what a trace finds
 pub found_still : (written more : List WrittenPiece) → Finer (in_trace written) (in_trace (written ++ more))
 found_still written more piece bytes found = (text_of_digest-stays written more piece.digest.0 bytes found.0, found.1)
+
+-- a trace finds one list of bytes at most
+pub trace_finds_one : (written : List WrittenPiece) → FindsOne (in_trace written)
+trace_finds_one written piece x y a b = same_Some x y (sym a.0 ∙ b.0)
 
 module _ (f g : Finds) (finer : Finer f g) where
   change_stays : (secret : List ℕ) (e : Entry) (change : Change) → IsChangeOf f secret e change → IsChangeOf g secret e change
@@ -77,34 +78,36 @@ module _ (f g : Finds) (finer : Finer f g) where
       kind = is.kind;
       next = is.next;
       base = is.base;
+      segments = is.segments;
       allowed = is.allowed;
       list = list_stays store.secret c changes is.list;
       owned = is.owned;
       placed = is.placed;
     }
 
-    pub checkpoint_stays : (before : StoreState) (c : Commit) (after : StoreState) → IsCheckpointOn f store before c after → IsCheckpointOn g store before c after
-    checkpoint_stays before c after is = record {
-      kind = is.kind;
-      next = is.next;
-      first = is.first;
-      root = is.root;
-      table = table_stays store.secret c is.table;
-      after_is = is.after_is;
-      formatted = is.formatted;
-    }
+    module _ (one : FindsOne g) where
+      pub checkpoint_stays : (before : StoreState) (c : Commit) (after : StoreState) → IsCheckpointOn f store before c after → IsCheckpointOn g store before c after
+      checkpoint_stays before c after is = record {
+        kind = is.kind;
+        next = is.next;
+        segments = is.segments;
+        table = table_stays store.secret c is.table;
+        tree = tree_stays f g finer store c.root before.chunks is.tree;
+        after_is = is.after_is;
+        placed = λ piece here. is.placed piece (⊎_elim (λ same. inl same) (λ reached. inr (reached_before f g finer one store c.root before.chunks piece is.tree reached)) here);
+      }
 
-    adds_stays : (before : StoreState) (c : Commit) (added : History) (after : StoreState) → Adds f store before c added after → Adds g store before c added after
-    adds_stays before c added after (inl checkpoint) = inl (checkpoint_stays before c after checkpoint.0, checkpoint.1)
-    adds_stays before c added after (inr commit) = inr (commit.0, commit_stays before c commit.0 after commit.1, commit.2)
+      adds_stays : (before : StoreState) (c : Commit) (added : History) (after : StoreState) → Adds f store before c added after → Adds g store before c added after
+      adds_stays before c added after (inl checkpoint) = inl (checkpoint_stays before c after checkpoint.0, checkpoint.1)
+      adds_stays before c added after (inr commit) = inr (commit.0, commit_stays before c commit.0 after commit.1, commit.2)
 
-    pub step_stays : (before : StoreState) (c : Commit) (added : History) (after : StoreState) → IsStep f store before c added after → IsStep g store before c added after
-    step_stays before c added after is = record { suite = is.suite; segments = is.segments; adds = adds_stays before c added after is.adds }
+      pub step_stays : (before : StoreState) (c : Commit) (added : History) (after : StoreState) → IsStep f store before c added after → IsStep g store before c added after
+      step_stays before c added after is = record { used = is.used; suite = is.suite; adds = adds_stays before c added after is.adds }
 
-    pub log_of_stays : (before : StoreState) (chain : List Commit) (history : History) (last : StoreState) → IsLogOf f store before chain history last → IsLogOf g store before chain history last
-    log_of_stays before [] history last is = is
-    log_of_stays before (c ∷ chain) history last is =
-        (is.0, is.1, is.2, step_stays before c is.0 is.1 is.3, log_of_stays is.1 chain is.2 last is.4, is.5)
+      pub log_of_stays : (before : StoreState) (chain : List Commit) (history : History) (last : StoreState) → IsLogOf f store before chain history last → IsLogOf g store before chain history last
+      log_of_stays before [] history last is = is
+      log_of_stays before (c ∷ chain) history last is =
+          (is.0, is.1, is.2, step_stays before c is.0 is.1 is.3, log_of_stays is.1 chain is.2 last is.4, is.5)
 
 -- The log of an anchor stays as more is written.
 pub log_stays : (written more : List WrittenPiece) (store : Store) (anchor : Anchor) (history : History) (last : StoreState) → IsLog written store anchor history last
@@ -112,7 +115,7 @@ pub log_stays : (written more : List WrittenPiece) (store : Store) (anchor : Anc
 log_stays written more store anchor history last is = record {
   chain = is.chain;
   ends = commit_chain-stays written more (commit_of (commit_key_of store.secret)) anchor.0 anchor.1 is.chain is.ends;
-  tells = log_of_stays (in_trace written) (in_trace (written ++ more)) (found_still written more) store (first_state store) is.chain history last is.tells;
+  tells = log_of_stays (in_trace written) (in_trace (written ++ more)) (found_still written more) store (trace_finds_one (written ++ more)) first_state is.chain history last is.tells;
 }
 
 -- A log becomes longer by a text.
@@ -189,5 +192,5 @@ module _ (f : Finds) (store : Store) where
       ∙ sym (ap (replay before.chunks) is.5 ∙ replay-both before.chunks is.0 is.2)
 
   -- A log leads to the state of its history.
-  pub log_state : (chain : List Commit) (history : History) (last : StoreState) → IsLogOf f store (first_state store) chain history last → last.chunks ≡ state_of history
-  log_state chain history last is = log_of_state (first_state store) chain history last is
+  pub log_state : (chain : List Commit) (history : History) (last : StoreState) → IsLogOf f store first_state chain history last → last.chunks ≡ state_of history
+  log_state chain history last is = log_of_state first_state chain history last is

@@ -12,10 +12,11 @@ use Rattle.tdb_model.specs.declared.change.Change.{Change}
 use Rattle.tdb_model.specs.declared.change.Change.TheVariants.{Write, Free, Make, Copy, Drop}
 use Rattle.tdb_platform.specs.Outside.{Anchor}
 use Rattle.tdb_overlay.specs.Changes.{AreChangesOf, HasChanges, IsChangeOf, named_records}
-use Rattle.tdb_overlay.specs.Found.{Finds, Store, in_trace}
+use Rattle.tdb_overlay.specs.Found.{Finds, Finer, Store, in_trace, store_of_text}
 use Rattle.tdb_overlay.specs.Needed.{needed}
 use Rattle.tdb_overlay.specs.Required.{IsRequired, RestsOn, base_of}
-use Rattle.tdb_overlay.proofs.LogLaws.{Finer, list_stays}
+use Rattle.tdb_overlay.proofs.CheckpointLaws.{reached_stays}
+use Rattle.tdb_overlay.proofs.LogLaws.{list_stays}
 
 -- a needed piece is one of the trace
 pub needed_found : (written : List WrittenPiece) (store : Store) (anchor : Anchor) → Finer (needed written store anchor) (in_trace written)
@@ -76,7 +77,7 @@ records_needed written store anchor chain ends c earlier later changes in_chain 
       later = later;
       in_chain = in_chain;
       since_base = since;
-      rests = inr (inr (record { kind = kind; changes = changes; list = list; before = before; after = after; names = names }));
+      rests = inr (inr (inl (record { kind = kind; changes = changes; list = list; before = before; after = after; names = names })));
     })
 
 -- the last text of a chain says its base
@@ -86,11 +87,12 @@ base_of-last (x ∷ []) c = refl
 base_of-last (x ∷ y ∷ front) c = base_of-last (y ∷ front) c
 
 -- what a text rests on stays as more is found
-rests_still : (f g : Finds) → Finer f g → (secret : List ℕ) (c : Commit) (piece : Piece) → RestsOn f secret c piece → RestsOn g secret c piece
+pub rests_still : (f g : Finds) → Finer f g → (secret : List ℕ) (c : Commit) (piece : Piece) → RestsOn f secret c piece → RestsOn g secret c piece
 rests_still f g finer secret c piece (inl text) = inl text
 rests_still f g finer secret c piece (inr (inl first)) = inr (inl first)
-rests_still f g finer secret c piece (inr (inr named)) =
-    inr (inr (record { kind = named.kind; changes = named.changes; list = list_stays f g finer secret c named.changes named.list; before = named.before; after = named.after; names = named.names }))
+rests_still f g finer secret c piece (inr (inr (inl named))) =
+    inr (inr (inl (record { kind = named.kind; changes = named.changes; list = list_stays f g finer secret c named.changes named.list; before = named.before; after = named.after; names = named.names })))
+rests_still f g finer secret c piece (inr (inr (inr reached))) = inr (inr (inr (reached_stays f g finer (store_of_text secret c) c.root piece reached)))
 
 same_chain : (x y : List Commit) → ◌≡◌ {A = Option (List Commit)} (Some x) (Some y) → x ≡ y
 same_chain x y e = cc

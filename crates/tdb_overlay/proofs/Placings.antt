@@ -9,7 +9,7 @@ use Rattle.tdb_seg.proofs.PlacingLaws.{IsLength, place_in-is, with_bytes-valid}
 use Rattle.tdb_seg.proofs.Placing.{LiesInDevice}
 use Rattle.tdb_overlay.specs.Placement.{note_all, LiesBelow}
 
-then_fit-is : (rest : SegmentSpace → Result (List Place × SegmentSpace) NoRoom) (o : Result (Place × SegmentSpace) NoRoom) (places : List Place) (next : SegmentSpace) → then_fit rest o ≡ Ok (places, next)
+pub then_fit-is : (rest : SegmentSpace → Result (List Place × SegmentSpace) NoRoom) (o : Result (Place × SegmentSpace) NoRoom) (places : List Place) (next : SegmentSpace) → then_fit rest o ≡ Ok (places, next)
     → (first : Place × SegmentSpace) × (o ≡ Ok first) × (others : List Place) × (rest first.1 ≡ Ok (others, next)) × (places ≡ first.0 ∷ others)
 then_fit-is rest (Err refusal) places next e = absurd (cc)
 then_fit-is rest (Ok first) places next e = inner (rest first.1) refl e
@@ -34,7 +34,7 @@ module _ (space : SegmentSpace) (n keep : ℕ) (place : Place) (next : SegmentSp
   unfolding place_in
   place_in-after is = placed-after (next_place space n keep) is
 
-same_parts : (a b : List Place) (s t : SegmentSpace) → ◌≡◌ {A = Result (List Place × SegmentSpace) NoRoom} (Ok (a, s)) (Ok (b, t)) → (a ≡ b) × (s ≡ t)
+pub same_parts : (a b : List Place) (s t : SegmentSpace) → ◌≡◌ {A = Result (List Place × SegmentSpace) NoRoom} (Ok (a, s)) (Ok (b, t)) → (a ≡ b) × (s ≡ t)
 same_parts a b s t e =
     let pair : (a, s) ≡ (b, t) = cc in
     (ap (λ (q : List Place × SegmentSpace). q.0) pair, ap (λ (q : List Place × SegmentSpace). q.1) pair)

@@ -14,7 +14,8 @@ use Rattle.tdb_seg.specs.SegmentSpace.{SegmentSpace, IsSegmentSpace, fits}
 use Rattle.tdb_seg.proofs.PlacingLaws.{IsLength}
 use Rattle.tdb_overlay.specs.Changes.{named_records}
 use Rattle.tdb_overlay.specs.Found.{Finds, Store}
-use Rattle.tdb_overlay.specs.Log.{IsCommitOn}
+use Rattle.tdb_model.specs.Apply.{History}
+use Rattle.tdb_overlay.specs.Log.{Adds, IsCommitOn, IsStep}
 use Rattle.tdb_overlay.specs.Placement.{note_all, LiesBelow}
 use Rattle.tdb_overlay.specs.StoreState.{StoreState, record_length, commit_lengths, commit_fits, kept_free}
 use Rattle.tdb_overlay.proofs.Lengths.{IsSized, as_many, list_length, lengths_are}
@@ -73,16 +74,24 @@ module _ (finds : Finds) (sized : IsSized finds) (store : Store) (before : Store
   pub commit_notes : note_all before.space pieces_of ≡ after.space
   commit_notes = fits_notes before.space _ (kept_free changes) _ after.space pieces_of placed sizes refl
 
-  both : IsSegmentSpace before.space → before.space.segments ≡ store.segments → AllByRecursion (LiesBelow store.segments) pieces_of × IsSegmentSpace after.space
-  both valid segments = fits_lie before.space store.segments _ (kept_free changes) _ after.space pieces_of valid segments piece_lengths placed sizes refl
+  both : IsSegmentSpace before.space → AllByRecursion (LiesBelow before.space.segments) pieces_of × IsSegmentSpace after.space
+  both valid = fits_lie before.space before.space.segments _ (kept_free changes) _ after.space pieces_of valid refl piece_lengths placed sizes refl
 
   -- Each of its pieces lies in a segment of the store.
-  pub commit_lies : IsSegmentSpace before.space → before.space.segments ≡ store.segments → AllByRecursion (LiesBelow store.segments) pieces_of
-  commit_lies valid segments = (both valid segments).0
+  pub commit_lies : IsSegmentSpace before.space → AllByRecursion (LiesBelow before.space.segments) pieces_of
+  commit_lies valid = (both valid).0
 
   -- The segments after it are a space of as many segments.
   pub commit_space : IsSegmentSpace before.space → IsSegmentSpace after.space
-  commit_space valid = (fits_lie before.space before.space.segments _ (kept_free changes) _ after.space pieces_of valid refl piece_lengths placed sizes refl).1
+  commit_space valid = (both valid).1
 
   pub commit_segments : after.space.segments ≡ before.space.segments
   commit_segments = ap (λ (s : SegmentSpace). s.segments) (sym commit_notes) ∙ note_all-segments before.space pieces_of
+
+-- After a text there are as many segments as it says.
+pub step_segments : (finds : Finds) (sized : IsSized finds) (store : Store) (before : StoreState) (c : Commit) (added : History) (after : StoreState) → IsStep finds store before c added after → after.space.segments ≡ c.segments
+step_segments finds sized store before c added after is = by is.adds
+  where
+    by : Adds finds store before c added after → after.space.segments ≡ c.segments
+    by (inl checkpoint) = ap (λ (s : StoreState). s.space.segments) checkpoint.0.after_is ∙ checkpoint.0.table.segments
+    by (inr commit) = commit_segments finds sized store before c commit.0 after commit.1 is.suite ∙ sym commit.1.segments

@@ -1,8 +1,10 @@
 -- The log of an anchor: the chain of texts that ends at it, well formed, with the history and the state that it tells.
-use Rattle.std.specs.Prelude.{◌≡◌, ◌⊎◌, ◌+◌, ℕ, List, [], ◌∷◌, ◌++◌, map, Option, Some, None, Ok}
+use Rattle.std.specs.Prelude.{◌≡◌, ◌⊎◌, ◌+◌, ℕ, List, [], ◌∷◌, ◌++◌, map, Option, Some, Ok}
 use Rattle.std.specs.FinMap.{get}
 use Rattle.tdb_base.specs.declared.piece.Piece.{Piece}
 use Rattle.tdb_base.specs.declared.piece.Place.{Place}
+use Rattle.tdb_base.specs.declared.suite.Suite.{Suite}
+use Rattle.tdb_base.specs.declared.suite.Suite.TheVariants.{Plain, Aes128, Aes256}
 use Rattle.tdb_base.specs.SuiteNumber.{suite_number}
 use Rattle.tdb_base.specs.Trace.{WrittenPiece}
 use Rattle.tdb_list.specs.declared.entry.Entry.{Entry}
@@ -14,10 +16,12 @@ use Rattle.tdb_model.specs.declared.change.Change.TheVariants.{Write, Free, Make
 use Rattle.tdb_model.specs.Apply.{History, apply}
 use Rattle.tdb_model.specs.State.{State, Partition}
 use Rattle.tdb_platform.specs.Outside.{Anchor}
+use Rattle.tdb_seg.specs.SegmentSpace.{IsPlacedIn}
 use Rattle.tdb_seg.specs.TableSpace.{table_space}
 use Rattle.tdb_overlay.specs.Changes.{HasChanges, HasTable, named_records}
+use Rattle.tdb_overlay.specs.CheckpointState.{IsReached, IsTreeState}
 use Rattle.tdb_overlay.specs.Found.{Finds, Store, in_trace}
-use Rattle.tdb_overlay.specs.StoreState.{StoreState, commit_fits, commit_on, first_state, formatted_state}
+use Rattle.tdb_overlay.specs.StoreState.{StoreState, commit_fits, commit_on, first_state}
 
 -- An entry says the suite, the home and the birth of its partition, which is there.
 pub record IsOfPartition (e : Entry) (found : Option Partition) : Type 0 where
@@ -45,47 +49,60 @@ AreOwned count state (e ∷ entries) (change ∷ changes) = IsOwned state e chan
 abbrev pub end_of : Piece → Place
 end_of piece = record { 0 = piece.place.0 + piece.length }
 
--- The text of a commit, after a state of the store, says changes that a commit may make there. Its records and its list
--- stand where they are placed.
-pub record IsCommitOn (finds : Finds) (store : Store) (before : StoreState) (c : Commit) (changes : List Change) (after : StoreState) : Type 0 where
+-- The text of a commit, after a state of the store, says changes that a commit may make there. Its base and its number of segments
+-- are those of the state. Its records and its list stand where they are placed.
+pub record IsCommitOn (finds : Finds) (store : Store) (before : StoreState) (c : Commit) (changes : List Change)
+    (after : StoreState) : Type 0 where
   pub kind : c.kind ≡ 1
   pub next : c.count ≡ before.count + 1
   pub base : c.base ≡ before.base
+  pub segments : c.segments ≡ before.space.segments
   pub allowed : commit_on store before changes ≡ Ok after
   pub list : HasChanges finds store.secret c changes
   pub owned : AreOwned c.count before.chunks list.entries changes
   pub placed : commit_fits store before changes ≡ Ok (map (λ piece. piece.place) (named_records list.entries ++ c.first ∷ []), after.space)
 
--- The text of a checkpoint. For now one stands only at the start of a log: it names no map of partitions, and its table, the
--- first piece of all, has its own segment alone as used.
+-- The text of a checkpoint, after a state of the store: its root tells that state. Its table has as many segments as there were, where
+-- there was a text before, and tells the segments from here on, with their tail behind the table. The table, and each piece that the
+-- root reaches, was placed in them.
 pub record IsCheckpointOn (finds : Finds) (store : Store) (before : StoreState) (c : Commit) (after : StoreState) : Type 0 where
   pub kind : c.kind ≡ 2
   pub next : c.count ≡ before.count + 1
-  pub first : before ≡ first_state store
-  pub root : c.root ≡ None
+  pub segments : (before.count ≡ 0) ⊎ (c.segments ≡ before.space.segments)
   pub table : HasTable finds store.secret c
-  pub after_is : after ≡ record { count = c.count; base = c.count; space = table_space table.table (end_of c.first); chunks = before.chunks }
-  pub formatted : after ≡ formatted_state store
+  pub tree : IsTreeState finds store c.root before.chunks
+  pub after_is : after
+      ≡ record { count = c.count; base = c.count; space = table_space table.table (end_of c.first); chunks = before.chunks }
+  pub placed : (piece : Piece) → (piece ≡ c.first) ⊎ IsReached finds store c.root piece
+      → IsPlacedIn after.space piece.place.0 piece.length
 
 -- what a text adds to the history: a checkpoint nothing, a commit its count and its changes
 abbrev pub Adds : Finds → Store → StoreState → Commit → History → StoreState → Type 0
 Adds finds store before c added after =
-    (IsCheckpointOn finds store before c after × (added ≡ [])) ⊎ ((changes : List Change) × IsCommitOn finds store before c changes after × (added ≡ (c.count, changes) ∷ []))
+    (IsCheckpointOn finds store before c after × (added ≡ []))
+    ⊎ ((changes : List Change) × IsCommitOn finds store before c changes after × (added ≡ (c.count, changes) ∷ []))
+
+-- The suites that stores are made under. No store is made under a cipher yet.
+abbrev pub IsInUse : Suite → Type 0
+IsInUse Plain = Unit {0}
+IsInUse Aes128 = ⊥
+IsInUse Aes256 = ⊥
 
 -- A text of the store, with what it adds and the state after it.
 pub record IsStep (finds : Finds) (store : Store) (before : StoreState) (c : Commit) (added : History) (after : StoreState) : Type 0 where
+  pub used : IsInUse store.suite
   pub suite : c.suite ≡ store.suite
-  pub segments : c.segments ≡ store.segments
   pub adds : Adds finds store before c added after
 
 -- From a state on, the history and the last state of a chain of texts.
 abbrev pub IsLogOf : Finds → Store → StoreState → List Commit → History → StoreState → Type 0
 IsLogOf finds store before [] history last = (history ≡ []) × (last ≡ before)
 IsLogOf finds store before (c ∷ chain) history last =
-    (added : History) × (mid : StoreState) × (later : History) × IsStep finds store before c added mid × IsLogOf finds store mid chain later last × (history ≡ added ++ later)
+    (added : History) × (mid : StoreState) × (later : History) × IsStep finds store before c added mid
+    × IsLogOf finds store mid chain later last × (history ≡ added ++ later)
 
 -- the log of an anchor: of the chain that ends at it
 pub record IsLog (written : List WrittenPiece) (store : Store) (anchor : Anchor) (history : History) (last : StoreState) : Type 0 where
   pub chain : List Commit
   pub ends : commit_chain written (commit_of (commit_key_of store.secret)) anchor.0 anchor.1 ≡ Some chain
-  pub tells : IsLogOf (in_trace written) store (first_state store) chain history last
+  pub tells : IsLogOf (in_trace written) store first_state chain history last

@@ -11,11 +11,16 @@ use Rattle.tdb_mark.specs.CommitText.{commit_key_of, commit_of, commit_text}
 use Rattle.tdb_model.specs.declared.change.Change.{Change}
 use Rattle.tdb_platform.specs.Outside.{Anchor}
 use Rattle.tdb_overlay.specs.Changes.{HasChanges, named_records}
-use Rattle.tdb_overlay.specs.Found.{Finds, Store, in_trace}
+use Rattle.tdb_overlay.specs.CheckpointState.{IsReached}
+use Rattle.tdb_overlay.specs.Found.{Finds, Store, in_trace, store_of_text}
 
 -- a commit's text as a piece: 256 bytes in the slot of its count
 abbrev pub text_piece : List ℕ → Commit → Piece
-text_piece secret c = record { place = record { 0 = slot_place c.count }; length = 256; digest = record { 0 = sha256 (commit_text (commit_key_of secret) c) } }
+text_piece secret c = record {
+  place = record { 0 = slot_place c.count };
+  length = 256;
+  digest = record { 0 = sha256 (commit_text (commit_key_of secret) c) };
+}
 
 -- one of the records that the list of a commit names
 pub record IsNamedBy (finds : Finds) (secret : List ℕ) (c : Commit) (piece : Piece) : Type 0 where
@@ -26,9 +31,12 @@ pub record IsNamedBy (finds : Finds) (secret : List ℕ) (c : Commit) (piece : P
   pub after : List Piece
   pub names : named_records list.entries ≡ before ++ piece ∷ after
 
--- what a text rests on: its own bytes, the table or the list that it names, and the records of that list
+-- What a text rests on: its own bytes, the table or the list that it names, the records of that list, and the pieces that its root
+-- reaches.
 abbrev pub RestsOn : Finds → List ℕ → Commit → Piece → Type 0
-RestsOn finds secret c piece = (piece ≡ text_piece secret c) ⊎ (piece ≡ c.first) ⊎ IsNamedBy finds secret c piece
+RestsOn finds secret c piece =
+    (piece ≡ text_piece secret c) ⊎ (piece ≡ c.first) ⊎ IsNamedBy finds secret c piece
+    ⊎ IsReached finds (store_of_text secret c) c.root piece
 
 -- the count of the last checkpoint, which the last text says
 abbrev pub base_of : List Commit → ℕ

@@ -16,16 +16,17 @@ use Rattle.tdb_model.specs.State.{State, Partition, no_partitions}
 use Rattle.tdb_seg.specs.SegmentSpace.{SegmentSpace, fits, fresh_space, segment_start, with_bytes}
 use Rattle.tdb_overlay.specs.Found.{Store}
 
--- What the texts of a log have come to: the count of the last, and that of the last checkpoint, the segments, and the state.
+-- What the texts of a log have come to: the count of the last, and that of the last checkpoint, the segments with their number, and
+-- the state of the chunks.
 pub record StoreState : Type 0 where
   pub count : ℕ
   pub base : ℕ
   pub space : SegmentSpace
   pub chunks : State
 
--- before the first text
-abbrev pub first_state : Store → StoreState
-first_state store = record { count = 0; base = 0; space = fresh_space store.segments; chunks = no_partitions }
+-- before the first text, where there is no segment yet
+abbrev pub first_state : StoreState
+first_state = record { count = 0; base = 0; space = fresh_space 0; chunks = no_partitions }
 
 -- how many bytes the record of n bytes has
 abbrev pub record_length : Suite → ℕ → ℕ
@@ -37,13 +38,13 @@ record_length Aes256 n = 48 + 16 * (n / 16 + 1)
 abbrev pub first_place : Place
 first_place = record { 0 = segment_start 0 }
 
--- The state of a store that was formatted: its table, of 528 bytes, is sealed at the start of the first segment, and that
--- segment alone is used.
-abbrev pub formatted_state : Store → StoreState
-formatted_state store = record {
+-- The state of a store that was formatted with a number of segments: its table, of 528 bytes, is sealed at the start of the first
+-- segment, and that segment alone is used.
+abbrev pub formatted_state : Store → ℕ → StoreState
+formatted_state store segments = record {
   count = 1;
   base = 1;
-  space = with_bytes (fresh_space store.segments) first_place (record_length store.suite 528);
+  space = with_bytes (fresh_space segments) first_place (record_length store.suite 528);
   chunks = no_partitions;
 }
 

@@ -11,11 +11,16 @@ mod keys;
 mod laws;
 mod overlay;
 mod recovered;
+mod runs;
 #[cfg(test)]
 mod tests;
 
 pub use fetching::{FetchError, fetch, fetch_text};
 pub use keys::Keys;
-pub use laws::{log_stays, log_tells_its_state};
+pub use laws::{
+    intact_by_required, log_extends, log_is_one, log_stays, log_tells_its_state,
+    placing_spares_required,
+};
 pub use overlay::{Leader, Overlay, Seen};
 pub use recovered::Recovered;
+pub use runs::{put_is_a_step, runs_join, runs_keep};
