@@ -44,7 +44,8 @@ use Rattle.tdb_chunk.proofs.Committing.{allowed_on, next_known, next_step}
 use Rattle.tdb_chunk.proofs.Growing.{Counts, Steps, added_err, added_ok, none_added, put_added}
 use Rattle.tdb_chunk.proofs.Keeping.{put_keeps}
 use Rattle.tdb_chunk.proofs.Laying.{sealed_none}
-use Rattle.tdb_chunk.proofs.Logs.{found_in_put, grows_all, put_adds, longer_chain, follows_is, unread_by}
+use Rattle.tdb_overlay.proofs.PutLogs.{found_in_put, grows_all, longer_chain, follows_is, unread_by}
+use Rattle.tdb_chunk.proofs.Logs.{put_adds}
 use Rattle.std.proofs.lemmas.List.{append-nil}
 
 no_fault : (e : CommitError) → ◌≡◌ {A = CommitError} e Fault → IsTrue (is_refusal e) → ⊥
@@ -168,9 +169,7 @@ module _ {D : Type 0} (outside : D → Outside) (crash_states : D → CrashState
     whole = put.puts.in_order ∙ ap (λ (l : List Placed). put.puts.done ++ l) (put.puts.complete refl) ∙ append-nil put.puts.done
 
     same_as : store_of now_is ≡ store
-    same_as =
-        ap (λ (s : List ℕ). let y : Store = record { secret = s; suite = Plain; segments = now_is.log.segments.segments } in y) keys
-        ∙ ap (λ (n : ℕ). let y : Store = record { secret = secret; suite = Plain; segments = n } in y) (ap (λ (s : SegmentSpace). s.segments) segments ∙ next.laid.segments)
+    same_as = ap (λ (s : List ℕ). let y : Store = record { secret = s; suite = Plain } in y) keys
 
     -- the chain of the new anchor is one text longer
     chain_of : (outside new).trace ≡ with_all_written (outside old).trace (ps ++ text_in_slot secret c ∷ []) → (outside new).anchor ≡ (was.log.head.count + 1, sha256 (text_of secret c)) → IsUnforged (outside new).trace (commit_of (commit_key_of secret))

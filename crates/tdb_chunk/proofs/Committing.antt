@@ -34,7 +34,7 @@ use Rattle.tdb_overlay.proofs.Needing.{base_of-last, changes_needed, needed_long
 use Rattle.tdb_chunk.specs.Names.{list_name}
 use Rattle.tdb_overlay.specs.Changes.{AreChangesOf, HasChanges, named_records}
 use Rattle.tdb_overlay.specs.Covering.{Covers, IsCovering, noted_all}
-use Rattle.tdb_overlay.specs.Found.{Finds, Store, in_trace}
+use Rattle.tdb_overlay.specs.Found.{Finer, Finds, Store, in_trace}
 use Rattle.tdb_overlay.specs.Log.{AreOwned, IsCommitOn, IsStep, IsLogOf}
 use Rattle.tdb_overlay.specs.StoreState.{StoreState, commit_fits, commit_lengths, commit_on, committed, kept_free, record_length, records_of, where_passed, where_placed, first_state}
 use Rattle.tdb_overlay.proofs.Coverings.{covering_finer, covering_noted}
@@ -44,8 +44,8 @@ use Rattle.tdb_chunk.specs.LaidOut.{IsOneOf, LaidOut, in_pieces}
 use Rattle.tdb_chunk.specs.Preparing.{IsNext, IsPrepared}
 use Rattle.tdb_chunk.specs.Text.{next_commit}
 use Rattle.tdb_chunk.specs.declared.store.Store as memory
-use Rattle.tdb_overlay.proofs.LogLaws.{Finer, changes_stay, list_stays}
-use Rattle.tdb_chunk.proofs.Logs.{in_later_trace}
+use Rattle.tdb_overlay.proofs.LogLaws.{changes_stay, list_stays}
+use Rattle.tdb_overlay.proofs.PutLogs.{in_later_trace}
 
 one_of_last : (ps : List Placed) (p : Placed) → IsOneOf (ps ++ p ∷ []) p.place p.bytes
 one_of_last [] p = inl (refl, refl)
@@ -180,19 +180,20 @@ module _ (o : Outside) (was : memory.Store) (entries : List Entry) (before : Lis
           kind = refl;
           next = count;
           base = known.base;
+          segments = ap (λ (s : SegmentSpace). s.segments) known.space;
           allowed = allowed_on;
           list = has;
           owned = subst (λ (n : ℕ). AreOwned n last.chunks entries changes) (sym count) (prepared.allowed last known).owned;
           placed = (with_room o was not_full counts_on last known changes prepared.room pass _ space placed_at).0;
         } in
         let step : IsStep (in_pieces (before ++ new ∷ [])) (store_of was) last d ((last.count + 1, changes) ∷ []) (committed last changes space) =
-        record { suite = refl; segments = refl; adds = inr (changes, on, ap (λ (n : ℕ). (n, changes) ∷ []) (sym count)) } in
+        record { used = tt; suite = refl; adds = inr (changes, on, ap (λ (n : ℕ). (n, changes) ∷ []) (sym count)) } in
         subst (λ (l : List Placed). IsStep (in_pieces l) (store_of was) last c ((last.count + 1, changes) ∷ []) (committed last changes space)) (sym next.pieces_are)
         (subst (λ (k : Commit). IsStep (in_pieces (before ++ new ∷ [])) (store_of was) last k ((last.count + 1, changes) ∷ []) (committed last changes space)) (sym next.commit) step)
 
     -- Behind it, where the log of the anchor is one text longer.
     module _ (u : Outside) (chain : List Commit) (before_h : History) (grows : Extends o.trace u.trace) (finer : Finer (in_pieces ps) (in_trace u.trace.written))
-        (ends : commit_chain o.trace.written (commit_of (commit_key_of was.keys)) o.anchor.0 o.anchor.1 ≡ Some chain) (tells : IsLogOf (in_trace o.trace.written) (store_of was) (first_state (store_of was)) chain before_h last)
+        (ends : commit_chain o.trace.written (commit_of (commit_key_of was.keys)) o.anchor.0 o.anchor.1 ≡ Some chain) (tells : IsLogOf (in_trace o.trace.written) (store_of was) first_state chain before_h last)
         (longer : commit_chain u.trace.written (commit_of (commit_key_of was.keys)) u.anchor.0 u.anchor.1 ≡ Some (chain ++ c ∷ [])) where
       based : was.log.head.base ≡ base_of chain
       based =

@@ -23,23 +23,24 @@ use Rattle.tdb_platform.specs.Outside.{Anchor, Outside}
 use Rattle.tdb_platform.specs.CrashStates.{CrashStates}
 use Rattle.tdb_seg.specs.SegmentSpace.{SegmentSpace}
 use Rattle.tdb_overlay.specs.Changes.{AreChangesOf, HasChanges, named_records}
-use Rattle.tdb_overlay.specs.Found.{Finds, Store, in_trace}
+use Rattle.tdb_overlay.specs.Found.{Finds, Finer, Store, in_trace}
 use Rattle.tdb_overlay.specs.Intact.{IsIntact, Stands, StaysIntact}
 use Rattle.tdb_overlay.specs.Log.{Adds, IsLog, IsLogOf, IsStep}
 use Rattle.tdb_overlay.specs.Required.{IsNamedBy, RestsOn, base_of}
 use Rattle.tdb_overlay.specs.StoreState.{StoreState, first_state}
 use Rattle.tdb_overlay.proofs.Chains.{LogCounts, chain_in_format, log_counts}
 use Rattle.tdb_overlay.proofs.Lengths.{trace_sized}
-use Rattle.tdb_overlay.proofs.LogLaws.{Finer, list_stays}
+use Rattle.tdb_overlay.proofs.LogLaws.{list_stays, trace_finds_one}
 use Rattle.tdb_overlay.proofs.Needing.{base_of-last}
 use Rattle.tdb_overlay.proofs.Unmistaken.{text_length}
 use Rattle.tdb_chunk.specs.Formatting.{IsStart, plain_store}
 use Rattle.tdb_chunk.specs.LaidOut.{IsFreshIn, in_pieces}
 use Rattle.tdb_chunk.specs.Text.{anchor_of, text_in_slot, text_of}
-use Rattle.tdb_chunk.proofs.Logs.{chain_still, follows_is, found_in_put, grows_all, in_later_trace, text_in_put}
-use Rattle.tdb_chunk.proofs.PlacedLogs.{IsIn, TextAt, commit_pieces, one_list, text_at}
-use Rattle.tdb_chunk.proofs.Standing.{all_at, put_record, put_text, record_stands, text_stands}
-use Rattle.tdb_chunk.proofs.Starting.{first_steps, starts_first}
+use Rattle.tdb_overlay.proofs.Listed.{all_at}
+use Rattle.tdb_overlay.proofs.PutLogs.{chain_still, follows_is, found_in_put, grows_all, in_later_trace, text_in_put}
+use Rattle.tdb_overlay.proofs.PlacedLogs.{IsIn, TextAt, commit_pieces, one_list, text_at}
+use Rattle.tdb_chunk.proofs.Standing.{put_record, put_text, record_stands, text_stands}
+use Rattle.tdb_chunk.proofs.Starting.{first_steps, fresh_at_first, starts_first}
 
 -- the piece stands for some bytes
 abbrev IsFound : Finds → Piece → Type 0
@@ -113,7 +114,7 @@ module _ (store : Store) (old new : Outside) (n : ℕ) (ps done rest : List Plac
     at_text : TextAt told (trace_sized old.trace.written) store text from
     at_text =
         text_at told (trace_sized old.trace.written) store earlier text later before from (subst (AllByRecursion IsInFormat) split formats)
-        (subst (λ (chain : List Commit). IsLogOf told store (first_state store) chain before from) split is.tells)
+        (subst (λ (chain : List Commit). IsLogOf told store first_state chain before from) split is.tells)
 
     counts : LogCounts is.chain from
     counts = log_counts told store is.chain before from (subst (λ (chain : List Commit). 1 ≤ length chain) (sym split) (some_of earlier text later)) formats is.tells
@@ -140,13 +141,14 @@ module _ (store : Store) (old new : Outside) (n : ℕ) (ps done rest : List Plac
           text_stands old.trace new.trace n slot ps done rest (ap slot_place count) long in_segments in_order wrote text.count piece at_text.some (omega (arith, at_text.counted, counted)) (omega (arith, counts.commits, counted, since))
           (ap (λ (p : Piece). p.place.0) same) (ap (λ (p : Piece). p.length) same) (stood (inl same))
       still_stands (inr (inl same)) = record_still (inr (inl same)) (subst (IsIn from.space) (sym same) (at_text.first since))
-      still_stands (inr (inr named)) =
+      still_stands (inr (inr (inl named))) =
           let list = commit_pieces told (trace_sized old.trace.written) store text from at_text named.kind in
           let entries : named.list.entries ≡ list.1.entries =
-          one_list new.trace.written store.secret text named.changes list.0 named.list (list_stays told (in_trace new.trace.written) finer store.secret text list.0 list.1) in
+          one_list (in_trace new.trace.written) (trace_finds_one new.trace.written) store.secret text named.changes list.0 named.list (list_stays told (in_trace new.trace.written) finer store.secret text list.0 list.1) in
           let names : named_records list.1.entries ≡ named.before ++ piece ∷ named.after = ap named_records (sym entries) ∙ named.names in
           let was_named : IsNamedBy told store.secret text piece = record { kind = named.kind; changes = list.0; list = list.1; before = named.before; after = named.after; names = names } in
-          record_still (inr (inr was_named)) (all_at (IsIn from.space) named.before piece named.after (subst (AllByRecursion (IsIn from.space)) names (list.2 since)))
+          record_still (inr (inr (inl was_named))) (all_at (IsIn from.space) named.before piece named.after (subst (AllByRecursion (IsIn from.space)) names (list.2 since)))
+      still_stands (inr (inr (inr reached))) = absurd reached
 
   -- The anchor is the old one.
   stays_intact : IsIntact new.trace.written store old.anchor
@@ -188,7 +190,7 @@ module _ (store : Store) (old new : Outside) (n : ℕ) (ps done rest : List Plac
       named_found piece named (inr commit) =
           let list : HasChanges (in_pieces ps) store.secret c commit.0 = commit.1.list in
           let entries : named.list.entries ≡ list.entries =
-          one_list new.trace.written store.secret c named.changes commit.0 named.list (list_stays (in_pieces ps) (in_trace new.trace.written) put_finer store.secret c commit.0 list) in
+          one_list (in_trace new.trace.written) (trace_finds_one new.trace.written) store.secret c named.changes commit.0 named.list (list_stays (in_pieces ps) (in_trace new.trace.written) put_finer store.secret c commit.0 list) in
           all_at (IsFound (in_pieces ps)) named.before piece named.after
           (subst (AllByRecursion (IsFound (in_pieces ps))) (ap named_records (sym entries) ∙ named.names) (records_found (in_pieces ps) store.secret list.entries commit.0 list.each))
 
@@ -197,7 +199,8 @@ module _ (store : Store) (old new : Outside) (n : ℕ) (ps done rest : List Plac
       new_stands piece (inl same) =
           put_text old.trace new.trace n slot ps (ap slot_place count) long in_segments apart whole piece (ap (λ (p : Piece). p.place.0) same) (ap (λ (p : Piece). p.length) same ∙ sym long) (sym (ap (λ (p : Piece). p.digest.0) same))
       new_stands piece (inr (inl same)) = laid_stands piece (subst (IsFound (in_pieces ps)) (sym same) (first_found step.adds))
-      new_stands piece (inr (inr named)) = laid_stands piece (named_found piece named step.adds)
+      new_stands piece (inr (inr (inl named))) = laid_stands piece (named_found piece named step.adds)
+      new_stands piece (inr (inr (inr reached))) = absurd reached
 
       goes_intact : IsIntact new.trace.written store (anchor_of store.secret c)
       goes_intact piece r =
@@ -215,13 +218,13 @@ module _ (store : Store) (old new : Outside) (n : ℕ) (ps done rest : List Plac
 -- A put of the start of a log keeps what there was, which is nothing, and what the first text rests on stands.
 pub format_keeps : {D T E : Type 0} (outside : D → Outside) (crash_states : D → CrashStates) (secret : List ℕ) (head : Head) (segments : ℕ) (c : Commit) (ps : List Placed) (space : SegmentSpace) (old new : D)
     (result : Result T E) → IsStart secret head segments c ps space → head.count ≡ 0 → head.mark.0 ≡ replicate 32 0 → commit_of (commit_key_of secret) (text_of secret c) ≡ Some c → (IsTrue (outside old).tells → (outside old).anchor.0 ≡ 0)
-    → Puts outside crash_states old new (ps ++ text_in_slot secret c ∷ []) (anchor_of secret c) result → StaysIntact (plain_store secret segments) (outside old) (outside new)
+    → Puts outside crash_states old new (ps ++ text_in_slot secret c ∷ []) (anchor_of secret c) result → StaysIntact (plain_store secret) (outside old) (outside new)
 format_keeps outside crash_states secret head segments c ps space old new result s zero_count zeros reads start puts tells unforged before from is intact =
-    let store : Store = plain_store secret segments in
-    let from_is : from ≡ first_state store = starts_first (outside old) store before from (start tells) is in
+    let store : Store = plain_store secret in
+    let from_is : from ≡ first_state = starts_first (outside old) store before from (start tells) is in
     let count : c.count ≡ 0 + 1 = omega (arith, ap (λ (k : Commit). k.count) s.commit, zero_count) in
     let based : from.base ≤ c.base = omega (arith, ap (λ (x : StoreState). x.base) from_is) in
     let steps = first_steps (outside old) secret head segments c ps space s zero_count (start tells) before from is tt in
     put_keeps store (outside old) (outside new) 0 ps puts.done puts.rest c before from is reads count s.laid.in_segments s.laid.apart
-    (subst (λ (x : StoreState). All (IsFreshIn x.space) ps) (sym from_is) s.laid.fresh) puts.in_order (puts.wrote.trace tells) (ap (λ (x : StoreState). x.count) from_is) intact
+    (subst (λ (x : StoreState). All (IsFreshIn x.space) ps) (sym from_is) (fresh_at_first ps)) puts.in_order (puts.wrote.trace tells) (ap (λ (x : StoreState). x.count) from_is) intact
     (replicate 32 0) steps.0 steps.1 (ap (λ (k : Commit). k.prev.0) s.commit ∙ zeros) (λ zero. refl) steps.3 based (start tells) (inr refl) unforged (puts.anchor tells)

@@ -4,7 +4,6 @@ pub mod Growing
 pub mod Keeping
 pub mod Laying
 pub mod Logs
-pub mod PlacedLogs
 pub mod Sealing
 pub mod Shown
 pub mod Standing

@@ -1,13 +1,9 @@
 -- The records that a store seals.
-use Rattle.std.proofs.Common.{◌≡◌, ℕ, ◌≤◌, List, length, ◌∙◌, ap}
-use Rattle.tdb_base.specs.declared.suite.Suite.TheVariants.{Plain}
-use Rattle.tdb_seal.specs.SealedRecord.{plain_record, IsSealedRecord}
+use Rattle.std.proofs.Common.{◌≡◌, ℕ, List, subst}
+use Rattle.tdb_seal.specs.declared.record.Name.{Name}
+use Rattle.tdb_seal.specs.SealedRecord.{IsSealedRecord}
 
-pub plain_sealed : (kind home rank : ℕ) (key plain given bytes : List ℕ) → length plain ≤ 1048576 → given ≡ plain
-    → bytes ≡ plain_record (record { kind = kind; suite = Plain; home = home; rank = rank }) given
-    → IsSealedRecord key (record { kind = kind; suite = Plain; home = home; rank = rank }) plain bytes
-plain_sealed kind home rank key plain given bytes size is spelled = record {
-  suite = tt;
-  size = size;
-  spelled = spelled ∙ ap (plain_record (record { kind = kind; suite = Plain; home = home; rank = rank })) is;
-}
+-- a record of equal bytes under an equal key
+pub sealed_as : (key given_key : List ℕ) (name : Name) (plain given bytes : List ℕ) → given_key ≡ key → given ≡ plain → IsSealedRecord given_key name given bytes → IsSealedRecord key name plain bytes
+sealed_as key given_key name plain given bytes same_key same sealed =
+    subst (λ (k : List ℕ). IsSealedRecord k name plain bytes) same_key (subst (λ (p : List ℕ). IsSealedRecord given_key name p bytes) same sealed)

@@ -12,28 +12,8 @@ use Rattle.tdb_base.specs.Trace.{Trace, WrittenPiece, calls_in, with_written}
 use Rattle.tdb_seg.specs.SegmentSpace.{SegmentSpace, IsPlacedIn}
 use Rattle.tdb_overlay.specs.Intact.{IsClear, Stands, StandsAt}
 use Rattle.tdb_chunk.specs.LaidOut.{IsFreshIn, IsOneOf, in_pieces}
-use Rattle.tdb_chunk.proofs.Logs.{with_all_written-push}
-
--- over the recursion on lists
-all_more : {X : Type 0} (P : X → Type 0) (xs : List X) (x : X) → AllByRecursion P xs → P x → AllByRecursion P (xs ++ x ∷ [])
-all_more P [] x all is = (is, tt)
-all_more P (y ∷ xs) x all is = (all.0, all_more P xs x all.1 is)
-
-pub all_front : {X : Type 0} (P : X → Type 0) (xs ys : List X) → AllByRecursion P (xs ++ ys) → AllByRecursion P xs
-all_front P [] ys all = tt
-all_front P (x ∷ xs) ys all = (all.0, all_front P xs ys all.1)
-
-pub all_at : {X : Type 0} (P : X → Type 0) (before : List X) (x : X) (after : List X) → AllByRecursion P (before ++ x ∷ after) → P x
-all_at P [] x after all = all.0
-all_at P (y ∷ before) x after all = all_at P before x after all.1
-
-pub all_weaker : {X : Type 0} (P Q : X → Type 0) (xs : List X) → ((x : X) → P x → Q x) → AllByRecursion P xs → AllByRecursion Q xs
-all_weaker P Q [] weaker all = tt
-all_weaker P Q (x ∷ xs) weaker all = (weaker x all.0, all_weaker P Q xs weaker all.1)
-
-all_listed : (P : Placed → Type 0) (ps : List Placed) → All P ps → AllByRecursion P ps
-all_listed P [] all = tt
-all_listed P (p ∷ ps) all = (all 0 p (omega arith), all_listed P ps (All-tail P p ps all))
+use Rattle.tdb_overlay.proofs.Listed.{all_front, all_listed, all_more, all_weaker, one_of_all}
+use Rattle.tdb_overlay.proofs.PutLogs.{with_all_written-push}
 
 apart_head : (p : Placed) (ps : List Placed) → AllPairs IsApart (p ∷ ps) → All (IsApart p) ps
 apart_head p ps pairs k d within = pairs zero (suc k) d (omega arith) (omega (arith, within))
@@ -70,11 +50,6 @@ stands_put t (p ∷ ps) place bytes (inl here) apart =
     stands_more next ps p.place p.bytes (stands_last t.written (record { bytes = p.bytes; place = p.place; call = calls_in t + 1 })) clear in
     subst (λ (k : ℕ). StandsAt (with_all_written next ps).written k bytes) here.0 (subst (λ (b : List ℕ). StandsAt (with_all_written next ps).written p.place b) here.1 stands)
 stands_put t (p ∷ ps) place bytes (inr is) apart = stands_put (with_written t p.place p.bytes) ps place bytes is (apart_tail p ps apart)
-
-one_of_all : (P : ℕ → List ℕ → Type 0) (ps : List Placed) (place : ℕ) (bytes : List ℕ) → AllByRecursion (λ p. P p.place p.bytes) ps → IsOneOf ps place bytes → P place bytes
-one_of_all P [] place bytes all is = absurd is
-one_of_all P (p ∷ ps) place bytes all (inl here) = subst (λ (k : ℕ). P k bytes) here.0 (subst (λ (b : List ℕ). P p.place b) here.1 all.0)
-one_of_all P (p ∷ ps) place bytes all (inr is) = one_of_all P ps place bytes all.1 is
 
 slots_apart : (n k : ℕ) → 1 ≤ k → k ≤ n → n ≤ k + 1000 → (slot_place (n + 1) + 256 ≤ slot_place k) ⊎ (slot_place k + 256 ≤ slot_place (n + 1))
 slots_apart n k some le near = elim (cases_lt (slot_place (n + 1)) (slot_place k)) [

@@ -1,12 +1,12 @@
 -- The start of a log: where its table is placed, and what its text adds.
-use Rattle.std.proofs.Common.{◌≡◌, ℕ, zero, suc, ◌+◌, ◌-◌, ◌/◌, ◌≤◌, Bool, true, not, List, [], ◌∷◌, length, Some, Ok, Result, IsTrue, ◌++◌, replicate, inl, inr, refl, sym, ap, subst, ◌∙◌, arith}
+use Rattle.std.proofs.Common.{◌≡◌, ℕ, zero, suc, ◌+◌, ◌-◌, ◌/◌, ◌≤◌, Bool, true, not, List, [], ◌∷◌, length, Some, Ok, Result, IsTrue, ◌++◌, replicate, inl, inr, ⊎_elim, refl, sym, ap, subst, ◌∙◌, arith}
 use Rattle.std.proofs.lemmas.Bool.{false≢true, cond-true, eqb-true, eq-eqb, or_left}
 use Rattle.std.proofs.lemmas.Option.{same_Some}
 use Rattle.std.specs.List.{filter, range_with_len}
 use Rattle.std.specs.Cmp.{nat_cmp_total, unsigned_tied}
 use Rattle.std.specs.Ordering.{nat_cmp, eq_by_cmp}
 use Rattle.std.specs.FinSet.{FinSet, contains, contains-empty, contains-insert, empty, insert}
-use Rattle.std.specs.Prelude.{OnOk}
+use Rattle.std.specs.Prelude.{All, OnOk}
 use Rattle.sha2.specs.Sha256.{sha256}
 use Rattle.tdb_append.specs.Placed.{Placed}
 use Rattle.tdb_append.specs.declared.head.Head.{Head}
@@ -36,7 +36,8 @@ use Rattle.tdb_overlay.specs.Found.{in_trace}
 use Rattle.tdb_overlay.specs.StoreState.{StoreState, first_place, first_state, formatted_state}
 use Rattle.tdb_chunk.specs.Committing.{AddedFrom}
 use Rattle.tdb_chunk.specs.Formatting.{Formatted, IsStart, plain_store}
-use Rattle.tdb_chunk.specs.LaidOut.{IsOneOf, LaidOut, in_pieces}
+use Rattle.tdb_overlay.proofs.PlacedLogs.{IsIn, table_placed}
+use Rattle.tdb_chunk.specs.LaidOut.{IsFreshIn, IsOneOf, LaidOut, in_pieces}
 use Rattle.tdb_chunk.specs.Names.{table_name}
 use Rattle.tdb_chunk.specs.Text.{anchor_of, next_commit, text_in_slot, text_of}
 use Rattle.tdb_chunk.proofs.Growing.{Counts, Steps, put_added}
@@ -122,36 +123,41 @@ module _ (secret : List ℕ) (head : Head) (segments : ℕ) (first : Piece) (tab
   }
 
 -- an anchor of count 0 has no text
-pub starts_first : (o : Outside) (store : Store) (before : History) (from : StoreState) → o.anchor.0 ≡ 0 → IsLog o.trace.written store o.anchor before from → from ≡ first_state store
+pub starts_first : (o : Outside) (store : Store) (before : History) (from : StoreState) → o.anchor.0 ≡ 0 → IsLog o.trace.written store o.anchor before from → from ≡ first_state
 starts_first o store before from start is =
     let ends = subst (λ (n : ℕ). commit_chain o.trace.written (commit_of (commit_key_of store.secret)) n o.anchor.1 ≡ Some is.chain) start is.ends in
-    let none = subst (λ (chain : List Commit). IsLogOf (in_trace o.trace.written) store (first_state store) chain before from) (sym (same_Some [] is.chain ends)) is.tells in
+    let none = subst (λ (chain : List Commit). IsLogOf (in_trace o.trace.written) store first_state chain before from) (sym (same_Some [] is.chain ends)) is.tells in
     none.1
 
 -- the first text is a checkpoint on no text
 pub first_steps : (o : Outside) (secret : List ℕ) (head : Head) (segments : ℕ) (c : Commit) (ps : List Placed) (space : SegmentSpace) → IsStart secret head segments c ps space → head.count ≡ 0 → o.anchor.0 ≡ 0
-    → Steps (λ _. Unit {0}) (plain_store secret segments) o ps c (Formatted (plain_store secret segments))
+    → Steps (λ _. Unit {0}) (plain_store secret) o ps c (Formatted (plain_store secret) segments)
 first_steps o secret head segments c ps space s zero_count start before from is known =
-    let store : Store = plain_store secret segments in
-    let from_is : from ≡ first_state store = starts_first o store before from start is in
+    let store : Store = plain_store secret in
+    let from_is : from ≡ first_state = starts_first o store before from start is in
     let one : c.count ≡ 1 = omega (arith, ap (λ (k : Commit). k.count) s.commit, zero_count) in
     let none : from.count ≡ 0 = ap (λ (x : StoreState). x.count) from_is in
-    let after : formatted_state store ≡ record { count = c.count; base = c.count; space = table_space s.table.table (end_of c.first); chunks = from.chunks } =
+    let after : formatted_state store segments ≡ record { count = c.count; base = c.count; space = table_space s.table.table (end_of c.first); chunks = from.chunks } =
     ap (λ (n : ℕ). let x : StoreState = record { count = n; base = n; space = with_bytes (fresh_space segments) first_place 576; chunks = no_partitions } in x) (sym one)
     ∙ ap (λ (y : SegmentSpace). let x : StoreState = record { count = c.count; base = c.count; space = y; chunks = no_partitions } in x) (sym (s.after ∙ s.is_first))
     ∙ ap (λ (y : StoreState). let x : StoreState = record { count = c.count; base = c.count; space = table_space s.table.table (end_of c.first); chunks = y.chunks } in x) (sym from_is) in
-    let checkpoint : IsCheckpointOn (in_pieces ps) store from c (formatted_state store) = record {
+    let placed : IsIn (formatted_state store segments).space c.first =
+    subst (λ (x : StoreState). IsIn x.space c.first) (sym after) (table_placed (in_pieces ps) secret c s.in_format s.table).1 in
+    let checkpoint : IsCheckpointOn (in_pieces ps) store from c (formatted_state store segments) = record {
       kind = ap (λ (k : Commit). k.kind) s.commit;
       next = omega (arith, one, none);
-      first = from_is;
-      root = ap (λ (k : Commit). k.root) s.commit;
+      segments = inl none;
       table = s.table;
+      tree = (ap (λ (k : Commit). k.root) s.commit, ap (λ (x : StoreState). x.chunks) from_is);
       after_is = after;
-      formatted = refl;
+      placed = λ piece which. ⊎_elim (λ same. subst (IsIn (formatted_state store segments).space) (sym same) placed) (λ reached. absurd reached) which;
     } in
-    let step : IsStep (in_pieces ps) store from c [] (formatted_state store) =
-    record { suite = ap (λ (k : Commit). k.suite) s.commit; segments = ap (λ (k : Commit). k.segments) s.commit; adds = inl (checkpoint, refl) } in
-    ([], formatted_state store, (refl, none, refl), step)
+    let step : IsStep (in_pieces ps) store from c [] (formatted_state store segments) = record { used = tt; suite = ap (λ (k : Commit). k.suite) s.commit; adds = inl (checkpoint, refl) } in
+    ([], formatted_state store segments, (refl, none, refl), step)
+
+-- nothing was placed before the first text
+pub fresh_at_first : (ps : List Placed) → All (IsFreshIn first_state.space) ps
+fresh_at_first ps k p within q m placed = absurd (false≢true (sym (contains-empty nat_cmp placed.k) ∙ placed.used))
 
 -- a fresh space is one
 pub fresh_valid : (n : ℕ) → 16 ≤ n → n ≤ 4096 → IsSegmentSpace (fresh_space n)
@@ -162,8 +168,8 @@ pub format_added : {D T E : Type 0} (outside : D → Outside) (crash_states : D 
     (result : Result T E) → IsStart secret head segments c ps space → head.count ≡ 0 → head.mark.0 ≡ replicate 32 0 → commit_of (commit_key_of secret) (text_of secret c) ≡ Some c → IsTrue (outside old).tells → (outside old).anchor.0 ≡ 0
     → IsSettled outside crash_states old → Puts outside crash_states old new (ps ++ text_in_slot secret c ∷ []) (anchor_of secret c) result → OnOk result ((outside new).anchor ≡ anchor_of secret c)
     → OnOk result ((i : List ℕ) (a : Anchor) → now outside crash_states new i a → a ≡ anchor_of secret c)
-    → AddedFrom outside crash_states (λ _. Unit {0}) (plain_store secret segments) old new (Formatted (plain_store secret segments)) result
+    → AddedFrom outside crash_states (λ _. Unit {0}) (plain_store secret) old new (Formatted (plain_store secret) segments) result
 format_added outside crash_states counts secret head segments c ps space old new result s zero_count zeros reads tells start settled puts advanced only =
-    put_added outside crash_states counts (λ _. Unit {0}) (Formatted (plain_store secret segments)) (plain_store secret segments) old new 0 (replicate 32 0) (text_in_slot secret c) ps c reads
+    put_added outside crash_states counts (λ _. Unit {0}) (Formatted (plain_store secret) segments) (plain_store secret) old new 0 (replicate 32 0) (text_in_slot secret c) ps c reads
     (omega (arith, ap (λ (k : Commit). k.count) s.commit, zero_count)) (ap (λ (k : Commit). k.prev.0) s.commit ∙ zeros) (λ zero. refl) (first_steps (outside old) secret head segments c ps space s zero_count start) tells start (inr refl) settled
     result puts advanced only

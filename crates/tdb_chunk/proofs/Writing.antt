@@ -248,7 +248,7 @@ module _ (o : Outside) (store : memory.Store) (part : PartId) (chunks : List Chu
 pub writes_list : (secret : List ℕ) (start : SegmentSpace) (part : PartId) (leader : Leader) (chunks : List Chunk) (entries : List Entry) (pieces : List Placed) (space : SegmentSpace) → AreLaid secret start part leader chunks entries pieces space
     → 1 ≤ length chunks → length chunks ≤ 1024 → IsList entries
 writes_list secret start part leader chunks entries pieces space are some few =
-    let same = as_many (in_pieces pieces) (λ piece bytes found. found.2) (record { secret = secret; suite = Plain; segments = 0 }) secret entries (writes_of part chunks) are.changes in
+    let same = as_many (in_pieces pieces) (λ piece bytes found. found.2) (record { secret = secret; suite = Plain }) secret entries (writes_of part chunks) are.changes in
     let count = length-map chunks (write_of part) in
     record { least = omega (arith, same, count, some); most = omega (arith, same, count, few); each = are.each }
 

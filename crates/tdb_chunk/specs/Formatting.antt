@@ -17,12 +17,12 @@ use Rattle.tdb_chunk.specs.LaidOut.{LaidOut, in_pieces}
 use Rattle.tdb_chunk.specs.Text.{next_commit}
 
 -- a store in suite plain
-abbrev pub plain_store : List ℕ → ℕ → Store
-plain_store secret segments = record { secret = secret; suite = Plain; segments = segments }
+abbrev pub plain_store : List ℕ → Store
+plain_store secret = record { secret = secret; suite = Plain }
 
--- From no text to the first checkpoint, which is no commit.
-abbrev pub Formatted : Store → Commits
-Formatted store from more to = (more ≡ []) × (from.count ≡ 0) × (to ≡ formatted_state store)
+-- From no text to the first checkpoint, of so many segments, which is no commit.
+abbrev pub Formatted : Store → ℕ → Commits
+Formatted store segments from more to = (more ≡ []) × (from.count ≡ 0) × (to ≡ formatted_state store segments)
 
 -- The start of a log that is laid: its text names the table, which has the space behind the table itself.
 pub record IsStart (secret : List ℕ) (head : Head) (segments : ℕ) (c : Commit) (pieces : List Placed) (space : SegmentSpace) : Type 0 where

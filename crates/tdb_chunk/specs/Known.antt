@@ -10,7 +10,7 @@ use Rattle.tdb_chunk.specs.declared.store.Store as memory
 
 -- the store, by what its owner knows of it; for now its suite is plain
 abbrev pub store_of : memory.Store → Store
-store_of s = record { secret = s.keys; suite = Plain; segments = s.log.segments.segments }
+store_of s = record { secret = s.keys; suite = Plain }
 
 -- the anchor names the last text that the store knows
 abbrev pub IsAtHead : Outside → memory.Store → Type 0

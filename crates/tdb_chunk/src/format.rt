@@ -120,14 +120,14 @@ impl Store {
         requires settled { IsSettled P.outside P.crash_states platform.old }
         requires least { 16 ≤ segments }
         requires most { segments ≤ 4096 }
-        ensures store { IfOk result (λ store. store_of store ≡ plain_store keys segments) }
+        ensures store { IfOk result (λ store. store_of store ≡ plain_store keys) }
         ensures at_head { IfOk result (λ store. IsAtHead (P.outside platform.new) store) }
         ensures settled { OnOk result (IsSettled P.outside P.crash_states platform.new) }
         // the log has its first text, and no commit
-        ensures added { IsTrue (P.outside platform.old).tells → Added P.outside P.crash_states (plain_store keys segments) platform.old platform.new (Formatted (plain_store keys segments)) result }
-        ensures knows { IfOk result (λ store. Knows (P.outside platform.new) store (formatted_state (plain_store keys segments))) }
+        ensures added { IsTrue (P.outside platform.old).tells → Added P.outside P.crash_states (plain_store keys) platform.old platform.new (Formatted (plain_store keys) segments) result }
+        ensures knows { IfOk result (λ store. Knows (P.outside platform.new) store (formatted_state (plain_store keys) segments)) }
         // no piece that the log needs was written over
-        ensures whole { StaysIntact (plain_store keys segments) (P.outside platform.old) (P.outside platform.new) }
+        ensures whole { StaysIntact (plain_store keys) (P.outside platform.old) (P.outside platform.new) }
         // nothing is read from the device
         ensures unread { IsTrue (P.outside platform.old).tells → (P.outside platform.new).trace.read ≡ (P.outside platform.old).trace.read }
         // only sealed records and texts go to the device

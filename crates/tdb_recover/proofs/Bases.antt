@@ -40,7 +40,6 @@ pub record BaseStep (written : List WrittenPiece) (log : WholeLog) (base : Commi
   pub after : StoreState
   pub history : History
   pub checkpoint : IsCheckpointOn (in_trace written) log.store before base after
-  pub segments : base.segments ≡ log.store.segments
   pub tells : IsLogOf (in_trace written) log.store after later history log.last
 
 no_commit : (c : Commit) → IsInFormat c → c.base ≡ c.count → c.kind ≡ 1 → ⊥
@@ -52,13 +51,13 @@ module _ (written : List WrittenPiece) (trace : Trace) (secret : List ℕ) (log 
   base_by before added after history step tells = by_kind step.adds
     where
       by_kind : ((IsCheckpointOn (in_trace written) log.store before base after × (added ≡ [])) ⊎ ((changes : List Change) × IsCommitOn (in_trace written) log.store before base changes after × (added ≡ (base.count, changes) ∷ []))) → BaseStep written log base later
-      by_kind (inl checkpoint) = record { before = before; after = after; history = history; checkpoint = checkpoint.0; segments = step.segments; tells = tells }
+      by_kind (inl checkpoint) = record { before = before; after = after; history = history; checkpoint = checkpoint.0; tells = tells }
       by_kind (inr commit) = absurd (no_commit base format own commit.1.kind)
 
   pub base_step : BaseStep written log base later
   base_step =
-      let parts = split (in_trace written) log.store (first_state log.store) ends.front (base ∷ later) log.history log.last
-      (subst (λ (l : List Commit). IsLogOf (in_trace written) log.store (first_state log.store) l log.history log.last) ends.parts given.tells) in
+      let parts = split (in_trace written) log.store first_state ends.front (base ∷ later) log.history log.last
+      (subst (λ (l : List Commit). IsLogOf (in_trace written) log.store first_state l log.history log.last) ends.parts given.tells) in
       base_by parts.mid parts.second.0 parts.second.1 parts.second.2 parts.second.3 parts.second.4
 
   -- its table is there
@@ -89,14 +88,13 @@ module _ (written : List WrittenPiece) (trace : Trace) (secret : List ℕ) (log 
   pub starts : (step : BaseStep written log base later) (r : Recovered) → r.segments ≡ table_space step.checkpoint.table.table (end_of base.first) → r.overlay ≡ no_covers → IsRest written log later r
   starts step r segments overlay =
       let after : step.after.space ≡ table_space step.checkpoint.table.table (end_of base.first) = ap (λ (s : StoreState). s.space) step.checkpoint.after_is in
-      let none : step.after.chunks ≡ _ = ap (λ (s : StoreState). s.chunks) step.checkpoint.after_is ∙ ap (λ (s : StoreState). s.chunks) step.checkpoint.first in
+      let none : step.after.chunks ≡ _ = ap (λ (s : StoreState). s.chunks) step.checkpoint.after_is ∙ step.checkpoint.tree.1 in
       record {
         state = step.after;
         history = step.history;
         tells = step.tells;
         kept = record {
           space = segments ∙ sym after;
-          size = ap (λ (s : SegmentSpace). s.segments) after ∙ step.checkpoint.table.segments ∙ step.segments;
           chunks =
               subst (λ (covers : Covers). IsCovering (needed written log.store log.anchor) log.store.secret covers step.after.chunks) (sym overlay)
               (subst (λ (s : State). IsCovering (needed written log.store log.anchor) log.store.secret no_covers s) (sym none) (covering_none (needed written log.store log.anchor) log.store.secret));

@@ -21,7 +21,9 @@ use Rattle.tdb_overlay.specs.Log.{IsLogOf}
 use Rattle.tdb_overlay.specs.StoreState.{StoreState, first_state}
 use Rattle.tdb_overlay.proofs.Chains.{chain_in_format, chain_last, step_counts}
 use Rattle.tdb_overlay.proofs.Needing.{base_of-last}
-use Rattle.tdb_recover.proofs.Steps.{split, commit_base, counts_of}
+use Rattle.tdb_overlay.proofs.Lengths.{trace_sized}
+use Rattle.tdb_overlay.proofs.Steps.{step_segments}
+use Rattle.tdb_recover.proofs.Steps.{split, commit_base, commit_many, counts_of}
 use Rattle.tdb_recover.specs.Chain.{EndsWith, IsGiven, IsTextOf, WholeLog}
 
 -- the last text of a chain, and the chain before it
@@ -117,8 +119,8 @@ module _ (written : List WrittenPiece) (trace : Trace) (secret : List ℕ) (log 
   pub newest_counts : (count : ℕ) (mark : List ℕ) → 0 < count → (last : LastText written (commit_of (commit_key_of secret)) (count - 1) mark log.chain) → (last.commit.count ≡ count) × (count ≤ last.commit.base + 1000) × (log.last.count ≡ count)
   newest_counts count mark some last =
       let format = (commit_of_is (commit_key_of secret) last.text last.commit last.reads).in_format in
-      let parts = split (in_trace written) log.store (first_state log.store) last.front (last.commit ∷ []) log.history log.last
-      (subst (λ (l : List Commit). IsLogOf (in_trace written) log.store (first_state log.store) l log.history log.last) last.parts given.tells) in
+      let parts = split (in_trace written) log.store first_state last.front (last.commit ∷ []) log.history log.last
+      (subst (λ (l : List Commit). IsLogOf (in_trace written) log.store first_state l log.history log.last) last.parts given.tells) in
       let step = parts.second.3 in
       let counts = step_counts (in_trace written) log.store parts.mid last.commit parts.second.0 parts.second.1 format step in
       let after : log.last ≡ parts.second.1 = parts.second.4.1 in
@@ -143,13 +145,15 @@ module _ (written : List WrittenPiece) (trace : Trace) (secret : List ℕ) (log 
       let store = log.store in
       let c_format = (commit_of_is (commit_key_of secret) last.text last.commit last.reads).in_format in
       let parts : log.chain ≡ last.front ++ last.commit ∷ text ∷ later = ends.parts ∙ ap (λ (l : List Commit). l ++ text ∷ later) last.parts ∙ append_assoc last.front (last.commit ∷ []) (text ∷ later) in
-      let s = split finds store (first_state store) last.front (last.commit ∷ text ∷ later) log.history log.last
-      (subst (λ (l : List Commit). IsLogOf finds store (first_state store) l log.history log.last) parts given.tells) in
+      let s = split finds store first_state last.front (last.commit ∷ text ∷ later) log.history log.last
+      (subst (λ (l : List Commit). IsLogOf finds store first_state l log.history log.last) parts given.tells) in
       let first = s.second.3 in
       let second = s.second.4.3 in
       let based : s.second.1.base ≡ last.commit.base = (step_counts finds store s.mid last.commit s.second.0 s.second.1 c_format first).base in
       let same : text.base ≡ s.second.1.base = commit_base finds store s.second.1 text s.second.4.0 s.second.4.1 format is_commit second in
-      (omega (arith, last.count, some), sym (same ∙ based), first.suite ∙ sym second.suite, first.segments ∙ sym second.segments)
+      let many : text.segments ≡ s.second.1.space.segments = commit_many finds store s.second.1 text s.second.4.0 s.second.4.1 format is_commit second in
+      let counted : s.second.1.space.segments ≡ last.commit.segments = step_segments finds (trace_sized written) store s.mid last.commit s.second.0 s.second.1 first in
+      (omega (arith, last.count, some), sym (same ∙ based), first.suite ∙ sym second.suite, sym (many ∙ counted))
 
   pub before_ends : (text : Commit) (later : List Commit) → IsInFormat text → text.base < text.count → 1 < text.count → (ends : EndsWith written secret log.chain text later)
       → (last : LastText written (commit_of (commit_key_of secret)) (text.count - 2) text.prev.0 ends.front) → EndsWith written secret log.chain last.commit (text ∷ later)

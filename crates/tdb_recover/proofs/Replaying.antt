@@ -23,7 +23,7 @@ use Rattle.tdb_overlay.proofs.Coverings.{covering_noted}
 use Rattle.tdb_overlay.proofs.Lengths.{trace_sized}
 use Rattle.tdb_overlay.proofs.LogLaws.{allows}
 use Rattle.tdb_overlay.proofs.Needing.{changes_needed}
-use Rattle.tdb_overlay.proofs.Steps.{commit_lies, commit_notes, commit_segments}
+use Rattle.tdb_overlay.proofs.Steps.{commit_lies, commit_notes}
 use Rattle.tdb_recover.specs.Records.{IsListIn}
 use Rattle.tdb_recover.specs.Replay.{IsCommitIn, IsReplayOf}
 use Rattle.tdb_recover.proofs.Noting.{note_push}
@@ -63,9 +63,9 @@ module _ (written : List WrittenPiece) (trace : Trace) (secret : List ℕ) (stor
   module _ (r : Recovered) (kept : IsReplayOf (needed written store anchor) store r before) where
     pieces_lie : IsSegmentSpace r.segments → AllByRecursion (LiesBelow r.segments.segments) (named_records entries_of ++ c.first ∷ [])
     pieces_lie valid =
-        let same : store.segments ≡ r.segments.segments = sym kept.size ∙ ap (λ (s : SegmentSpace). s.segments) (sym kept.space) in
+        let same : before.space.segments ≡ r.segments.segments = ap (λ (s : SegmentSpace). s.segments) (sym kept.space) in
         subst (λ (n : ℕ). AllByRecursion (LiesBelow n) (named_records entries_of ++ c.first ∷ [])) same
-        (commit_lies (in_trace written) (trace_sized written) store before c changes after given.commit given.suite (subst IsSegmentSpace kept.space valid) kept.size)
+        (commit_lies (in_trace written) (trace_sized written) store before c changes after given.commit given.suite (subst IsSegmentSpace kept.space valid))
 
     -- the records that it names lie in the segments
     pub records_lie : IsSegmentSpace r.segments → AllByRecursion (LiesBelow r.segments.segments) (named_records entries_of)
@@ -87,7 +87,6 @@ module _ (written : List WrittenPiece) (trace : Trace) (secret : List ℕ) (stor
               segments ∙ sym (note_push r.segments (named_records entries_of) c.first)
               ∙ ap (λ (s : SegmentSpace). note_all s (named_records entries_of ++ c.first ∷ [])) kept.space
               ∙ commit_notes found (trace_sized written) store before c changes after given.commit given.suite;
-          size = commit_segments found (trace_sized written) store before c changes after given.commit given.suite ∙ kept.size;
           chunks =
               subst (λ (covers : Covers). IsCovering finds store.secret covers after.chunks) (sym overlay)
               (subst (λ (s : State). IsCovering finds store.secret (noted_all c.count r.overlay entries_of) s) (sym state)

@@ -16,7 +16,7 @@ no_checkpoint c format earlier kind = ⊎_elim (λ commit. omega (arith, commit.
 
 -- the counts of a chain with a last text
 pub counts_of : (finds : Finds) (store : Store) (front : List Commit) (c : Commit) (chain : List Commit) (history : History) (last : StoreState) → chain ≡ front ++ c ∷ [] → AllByRecursion IsInFormat chain
-    → IsLogOf finds store (first_state store) chain history last → LogCounts chain last
+    → IsLogOf finds store first_state chain history last → LogCounts chain last
 counts_of finds store front c chain history last parts formats is =
     log_counts finds store chain history last (omega (arith, ap (λ (l : List Commit). length l) parts, length-append front (c ∷ []))) formats is
 
@@ -27,6 +27,15 @@ commit_base finds store before c added after format is_commit step = by_kind ste
     by_kind : ((IsCheckpointOn finds store before c after × (added ≡ [])) ⊎ ((changes : List Change) × IsCommitOn finds store before c changes after × (added ≡ (c.count, changes) ∷ []))) → c.base ≡ before.base
     by_kind (inl checkpoint) = absurd (no_checkpoint c format is_commit checkpoint.0.kind)
     by_kind (inr commit) = commit.1.base
+
+-- and as many segments as there are
+pub commit_many : (finds : Finds) (store : Store) (before : StoreState) (c : Commit) (added : History) (after : StoreState) → IsInFormat c → c.base < c.count → IsStep finds store before c added after
+    → c.segments ≡ before.space.segments
+commit_many finds store before c added after format is_commit step = by_kind step.adds
+  where
+    by_kind : ((IsCheckpointOn finds store before c after × (added ≡ [])) ⊎ ((changes : List Change) × IsCommitOn finds store before c changes after × (added ≡ (c.count, changes) ∷ []))) → c.segments ≡ before.space.segments
+    by_kind (inl checkpoint) = absurd (no_checkpoint c format is_commit checkpoint.0.kind)
+    by_kind (inr commit) = commit.1.segments
 
 -- the states between two parts of a chain
 pub record IsSplit (finds : Finds) (store : Store) (before : StoreState) (front texts : List Commit) (history : History) (last : StoreState) : Type 0 where

@@ -30,7 +30,7 @@ pub record IsGiven (written : List WrittenPiece) (trace : Trace) (secret : List 
   pub keys : log.store.secret ≡ secret
   pub unforged : IsUnforged trace (commit_of (commit_key_of secret))
   pub ends : commit_chain written (commit_of (commit_key_of secret)) log.anchor.0 log.anchor.1 ≡ Some log.chain
-  pub tells : IsLogOf (in_trace written) log.store (first_state log.store) log.chain log.history log.last
+  pub tells : IsLogOf (in_trace written) log.store first_state log.chain log.history log.last
 
 -- where the platform tells its trace, each log that it had at the start has P
 abbrev pub EachLog : Outside → Outside → List ℕ → (WholeLog → Type 0) → Type 0

@@ -28,7 +28,6 @@ IsFormUnless P error = ((place : Place) × (error ≡ Form place)) × (P → ⊥
 -- The segments and the partitions that were taken in so far are those of a state of the store.
 pub record IsReplayOf (finds : Finds) (store : Store) (r : Recovered) (s : StoreState) : Type 0 where
   pub space : r.segments ≡ s.space
-  pub size : s.space.segments ≡ store.segments
   pub chunks : IsCovering finds store.secret r.overlay s.chunks
 
 -- The text is that of a commit on a state of the store, the log of an anchor needs the records that its list names, and

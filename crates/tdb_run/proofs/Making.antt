@@ -32,22 +32,22 @@ use Rattle.tdb_run.proofs.RunRan.{Counts, log_later}
 
 module _ {D : Type 0} (outside : D → Outside) (crash_states : D → CrashStates) (counts : Counts outside crash_states) (store : Store) where
   -- a store that was formatted, and the commit that makes its partitions
-  module _ {T E : Type 0} (old mid : D) (result : Result T E) (added : Added outside crash_states store old mid (Formatted store) result) (history : History) (from : StoreState)
+  module _ {T E : Type 0} (segments : ℕ) (old mid : D) (result : Result T E) (added : Added outside crash_states store old mid (Formatted store segments) result) (history : History) (from : StoreState)
       (sound : IsSound store (outside mid)) (is : IsLog (outside old).trace.written store (outside old).anchor history from) where
-    none_added : (a : Anchor) → HasGrownBy store (outside old) (outside mid) (UnlessErr (Formatted store) result) a → HasAllOf (outside mid).trace.written store history [] [] a
+    none_added : (a : Anchor) → HasGrownBy store (outside old) (outside mid) (UnlessErr (Formatted store segments) result) a → HasAllOf (outside mid).trace.written store history [] [] a
     none_added a grown =
         let g = grown sound history from is in
         let none : g.0 ≡ [] = ⊎_elim (λ made. made.0) (λ err. err.1.0) g.2 in
         (g.1, inl (subst (λ (h : History). IsLog (outside mid).trace.written store a (history ++ h) g.1) none g.3))
 
-    part_of_format : (new : D) (begun : History) (a : Anchor) → Extends (outside mid).trace (outside new).trace → HasGrownBy store (outside old) (outside mid) (OrNothing (Formatted store)) a → HasPartOf (outside new).trace.written store history begun a
+    part_of_format : (new : D) (begun : History) (a : Anchor) → Extends (outside mid).trace (outside new).trace → HasGrownBy store (outside old) (outside mid) (OrNothing (Formatted store segments)) a → HasPartOf (outside new).trace.written store history begun a
     part_of_format new begun a grows grown =
         let g = grown sound history from is in
         let none : g.0 ≡ [] = ⊎_elim (λ made. made.0) (λ nothing. nothing.0) g.2 in
         (g.0, begun, g.1, sym (ap (λ (h : History). h ++ begun) none), log_later (outside mid).trace (outside new).trace store a (history ++ g.0) g.1 grows g.3)
 
     -- it wasn't formatted for sure
-    pub not_formatted : HasNotMade outside crash_states store (IsNewStore store) old mid history from
+    pub not_formatted : HasNotMade outside crash_states store (IsNewStore store segments) old mid history from
     not_formatted = record {
       maybe = [];
       of_opening = inl refl;
@@ -57,9 +57,9 @@ module _ {D : Type 0} (outside : D → Outside) (crash_states : D → CrashState
     }
 
     module _ (new : D) (grows : Extends (outside mid).trace (outside new).trace) where
-      pub made_new : (kept : memory.Store) → (outside mid).trace.read ≡ (outside old).trace.read → IsCommitted outside crash_states store mid new history (formatted_state store) (opening_changes Plain) kept → HasMade outside crash_states store (IsNewStore store) old new history from kept
+      pub made_new : (kept : memory.Store) → (outside mid).trace.read ≡ (outside old).trace.read → IsCommitted outside crash_states store mid new history (formatted_state store segments) (opening_changes Plain) kept → HasMade outside crash_states store (IsNewStore store segments) old new history from kept
       made_new kept unread c = record {
-        begun = commit_after (formatted_state store) (opening_changes Plain);
+        begun = commit_after (formatted_state store segments) (opening_changes Plain);
         opened = c.to;
         begins = (c.allowed, refl);
         log = c.log;
@@ -67,10 +67,10 @@ module _ {D : Type 0} (outside : D → Outside) (crash_states : D → CrashState
         unread = c.unread ∙ unread;
         any_moment =
             goes_on_by outside crash_states counts old mid new _
-            (leaves_weaker outside crash_states old mid _ _ added.any_moment (λ i a grown. part_of_format new (commit_after (formatted_state store) (opening_changes Plain)) a grows grown)) c.any_moment;
+            (leaves_weaker outside crash_states old mid _ _ added.any_moment (λ i a grown. part_of_format new (commit_after (formatted_state store segments) (opening_changes Plain)) a grows grown)) c.any_moment;
       }
 
-      pub not_made_new : MayBeCommitted outside crash_states store mid new history (formatted_state store) (opening_changes Plain) → HasNotMade outside crash_states store (IsNewStore store) old new history from
+      pub not_made_new : MayBeCommitted outside crash_states store mid new history (formatted_state store segments) (opening_changes Plain) → HasNotMade outside crash_states store (IsNewStore store segments) old new history from
       not_made_new c = record {
         maybe = c.maybe;
         of_opening = ⊎_elim (λ none. inl none) (λ made. inr (made.0, (made.1, made.2))) c.of_changes;
@@ -81,9 +81,9 @@ module _ {D : Type 0} (outside : D → Outside) (crash_states : D → CrashState
       }
 
   -- the last state of a store that was formatted
-  pub formatted_log : {T E : Type 0} (old mid : D) (x : T) → Added {E = E} outside crash_states store old mid (Formatted store) (Ok x) → (history : History) (from : StoreState) → IsSound store (outside mid)
-      → IsLog (outside old).trace.written store (outside old).anchor history from → IsLog (outside mid).trace.written store (outside mid).anchor history (formatted_state store)
-  formatted_log old mid x added history from sound is =
+  pub formatted_log : {T E : Type 0} (segments : ℕ) (old mid : D) (x : T) → Added {E = E} outside crash_states store old mid (Formatted store segments) (Ok x) → (history : History) (from : StoreState) → IsSound store (outside mid)
+      → IsLog (outside old).trace.written store (outside old).anchor history from → IsLog (outside mid).trace.written store (outside mid).anchor history (formatted_state store segments)
+  formatted_log segments old mid x added history from sound is =
       let g = added.history sound history from is in
       ⊎_elim
       (λ made.
@@ -92,13 +92,13 @@ module _ {D : Type 0} (outside : D → Outside) (crash_states : D → CrashState
       (λ err. absurd (false≢true err.0)) g.2
 
   -- What the log needs stands after both calls.
-  pub made_whole : (numbered : (p : D) → IsTrue (outside p).tells → IsNumbered (outside p).trace) (old mid new : D) (x : memory.Store) {E : Type 0} → (outside mid).tells ≡ (outside old).tells
-      → (IsTrue (outside old).tells → Added {E = E} outside crash_states store old mid (Formatted store) (Ok x)) → (IsTrue (outside mid).tells → Extends (outside mid).trace (outside new).trace) → Knows (outside mid) x (formatted_state store)
+  pub made_whole : (numbered : (p : D) → IsTrue (outside p).tells → IsNumbered (outside p).trace) (segments : ℕ) (old mid new : D) (x : memory.Store) {E : Type 0} → (outside mid).tells ≡ (outside old).tells
+      → (IsTrue (outside old).tells → Added {E = E} outside crash_states store old mid (Formatted store segments) (Ok x)) → (IsTrue (outside mid).tells → Extends (outside mid).trace (outside new).trace) → Knows (outside mid) x (formatted_state store segments)
       → StaysIntact store (outside old) (outside mid) → ScriptWhole outside mid new store x → StaysIntact store (outside old) (outside new)
-  made_whole numbered old mid new x same added grows knows formatted whole told sound history from is intact =
+  made_whole numbered segments old mid new x same added grows knows formatted whole told sound history from is intact =
       let on : IsTrue (outside mid).tells = subst IsTrue (sym same) told in
       let earlier = IsUnforged-before (outside mid).trace (outside new).trace (commit_of (commit_key_of store.secret)) (numbered mid on) (grows on) sound in
-      whole on sound history (formatted_state store) (formatted_log old mid x (added told) history from earlier is) knows (formatted told earlier history from is intact)
+      whole on sound history (formatted_state store segments) (formatted_log segments old mid x (added told) history from earlier is) knows (formatted told earlier history from is intact)
 
   module _ (old new : D) (history : History) (from : StoreState) where
     -- a store that had no partitions

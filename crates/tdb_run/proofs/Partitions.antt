@@ -47,8 +47,8 @@ are_first [] later are = tt
 are_first (commit ∷ first) later are = (are.0, are_first first later are.1)
 
 -- a new store, and one that was there
-pub new_by_run : (store : Store) → OpensByRun (IsNewStore store)
-new_by_run store from begun opened is = subst AreOfRun (sym is.1) (inl refl, tt)
+pub new_by_run : (store : Store) (segments : ℕ) → OpensByRun (IsNewStore store segments)
+new_by_run store segments from begun opened is = subst AreOfRun (sym is.1) (inl refl, tt)
 
 pub reopened_by_run : (store : Store) → OpensByRun (IsReopened store)
 reopened_by_run store from begun opened is = ⊎_elim (λ both. subst AreOfRun (sym both.1) tt) (λ none. subst AreOfRun (sym none.1.1) (inl refl, tt)) is

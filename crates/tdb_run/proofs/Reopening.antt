@@ -33,21 +33,18 @@ use Rattle.tdb_run.specs.declared.status.Status.{Status}
 use Rattle.tdb_run.specs.declared.status.Status.TheVariants.{Done, Usage, AnchorCount, Damaged, PlatformFault, SourceFault, SinkFault, Memory, End, Refused}
 use Rattle.tdb_run.proofs.ReadingLines.{knows_still}
 use Rattle.tdb_run.proofs.RunBeginning.{log_read, not_begun_read, not_begun_settled, reads_on}
-use Rattle.tdb_run.proofs.LogRanges.{log_plain, log_segments}
+use Rattle.tdb_run.proofs.LogRanges.{log_plain}
 use Rattle.tdb_run.proofs.RunRan.{Counts}
 
 -- A store that stands for the last state of a log is that of the log.
 opened_store : (kept : memory.Store) (store : Store) (o : Outside) (history : History) (from : StoreState) → kept.keys ≡ store.secret → IsRecovered (needed o.trace.written store o.anchor) store kept.log from → IsLog o.trace.written store o.anchor history from
     → store_of kept ≡ store
 opened_store kept store o history from keys recovered is =
-    let segments : kept.log.segments.segments ≡ store.segments =
-    ap (λ (s : _). s.segments) recovered.space ∙ log_segments (in_trace o.trace.written) store (first_state store) is.chain history from refl is.tells in
     let suite : store.suite ≡ Plain = ⊎_elim
     (λ none. let zero : from.count ≡ 0 = ap (λ (s : StoreState). s.count) none in absurd (omega (arith, zero, recovered.count, kept.counts.some, kept.counts.base)))
-    (λ plain. plain) (log_plain (in_trace o.trace.written) store (first_state store) is.chain history from is.tells) in
-    ap (λ (k : List ℕ). let t : Store = record { secret = k; suite = Plain; segments = kept.log.segments.segments } in t) keys
-    ∙ ap (λ (n : ℕ). let t : Store = record { secret = store.secret; suite = Plain; segments = n } in t) segments
-    ∙ ap (λ (s : Suite). let t : Store = record { secret = store.secret; suite = s; segments = store.segments } in t) (sym suite)
+    (λ plain. plain) (log_plain (in_trace o.trace.written) store first_state is.chain history from is.tells) in
+    ap (λ (k : List ℕ). let t : Store = record { secret = k; suite = Plain } in t) keys
+    ∙ ap (λ (s : Suite). let t : Store = record { secret = store.secret; suite = s } in t) (sym suite)
 
 -- what is taken for granted where the log is read, by what is so later
 pub premises_then : {D : Type 0} (outside : D → Outside) (crash_states : D → CrashStates) (counts : Counts outside crash_states) (numbered : (p : D) → IsTrue (outside p).tells → IsNumbered (outside p).trace)

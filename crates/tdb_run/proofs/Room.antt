@@ -13,10 +13,10 @@ use Rattle.tdb_overlay.specs.StoreState.{StoreState, commit_fits, commit_on, com
 
 module _ (secret : List ℕ) (segments : ℕ) where
   abbrev store : Store
-  store = plain_store secret segments
+  store = plain_store secret
 
   abbrev first : StoreState
-  first = formatted_state store
+  first = formatted_state store segments
 
   -- the end of the table
   abbrev tail : Place

@@ -17,7 +17,7 @@ use Rattle.tdb_chunk.proofs.Laying.{sealed_along, sealed_none}
 use Rattle.tdb_run.specs.Served.{IsUnwritten}
 
 -- an anchor of count 0 has a log of no text
-pub log_at_zero : (written : List WrittenPiece) (store : Store) (a : Anchor) → a.0 ≡ 0 → IsLog written store a [] (first_state store)
+pub log_at_zero : (written : List WrittenPiece) (store : Store) (a : Anchor) → a.0 ≡ 0 → IsLog written store a [] first_state
 log_at_zero written store a zero = record {
   chain = [];
   ends = subst (λ (n : ℕ). commit_chain written (commit_of (commit_key_of store.secret)) n a.1 ≡ Some []) (sym zero) refl;
@@ -50,7 +50,7 @@ pub new_store_intact : (store made : Store) (old new : Outside) → store.secret
 new_store_intact store made old new same untouched keeps unforged before from is intact = elim (eqb_tells old.anchor.0 0) [
   | inl zero ↦
       intact_of made store (sym same) new.trace.written new.anchor
-      (keeps (subst (λ (k : List ℕ). IsUnforged new.trace (commit_of (commit_key_of k))) same unforged) [] (first_state made) (log_at_zero old.trace.written made old.anchor zero.1)
+      (keeps (subst (λ (k : List ℕ). IsUnforged new.trace (commit_of (commit_key_of k))) same unforged) [] first_state (log_at_zero old.trace.written made old.anchor zero.1)
       (intact_of store made same old.trace.written old.anchor intact))
   | inr more ↦ intact_unwritten store old new (untouched more.1) intact
 ]

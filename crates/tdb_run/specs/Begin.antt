@@ -53,9 +53,9 @@ Opens = StoreState → History → StoreState → Type 0
 abbrev pub IsOpeningCommit : Store → StoreState → History → StoreState → Type 0
 IsOpeningCommit store from begun opened = (commit_on store from (opening_changes Plain) ≡ Ok opened) × (begun ≡ commit_after from (opening_changes Plain))
 
--- a new store: the first text, and then that commit
-abbrev pub IsNewStore : Store → Opens
-IsNewStore store from begun opened = IsOpeningCommit store (formatted_state store) begun opened
+-- a new store of so many segments: the first text, and then that commit
+abbrev pub IsNewStore : Store → ℕ → Opens
+IsNewStore store segments from begun opened = IsOpeningCommit store (formatted_state store segments) begun opened
 
 -- a store that was there, with that commit where the partitions weren't
 abbrev pub IsReopened : Store → Opens

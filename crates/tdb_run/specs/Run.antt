@@ -116,8 +116,8 @@ IsStopWithoutScript old new status = IsEarlyStop old new status
 -- What a command's run has come to before its last line: its conversation, and by its words what that was.
 pub record RunServed {D : Type 0} (outside : D → Outside) (crash_states : D → CrashStates) (words : List (List ℕ)) (secret : List ℕ) (came gone : SourceContent) (before after : SinkContent) (old new : D) (status : Status) : Type 0 where
   pub served : Served came gone before after status
-  pub start : (segments : ℕ) → IsStart words segments → RunOver outside crash_states (plain_store secret segments) served.conversation (IsNewStore (plain_store secret segments)) old new status
-  pub format : (segments : ℕ) → IsFormat words segments → (served.conversation.taken ≡ []) × IsStopWithoutScript (outside old) (outside new) status × RunOver outside crash_states (plain_store secret segments) served.conversation (IsNewStore (plain_store secret segments)) old new status
+  pub start : (segments : ℕ) → IsStart words segments → RunOver outside crash_states (plain_store secret) served.conversation (IsNewStore (plain_store secret) segments) old new status
+  pub format : (segments : ℕ) → IsFormat words segments → (served.conversation.taken ≡ []) × IsStopWithoutScript (outside old) (outside new) status × RunOver outside crash_states (plain_store secret) served.conversation (IsNewStore (plain_store secret) segments) old new status
   pub reopened : IsRun words → (store : Store) → store.secret ≡ secret → RunOver outside crash_states store served.conversation (IsReopened store) old new status
 
 -- How a run was to end when it came to its last line, by its words, by the anchor's count and by what failed before. A run

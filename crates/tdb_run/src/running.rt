@@ -144,7 +144,7 @@ fn start<S: Source, K: Sink, P: Platform>(
     requires least { 16 ≤ segments }
     requires most { segments ≤ 4096 }
     ensures served { (served : Served (S.content source.old) (S.content source.new) (K.content sink.old) (K.content sink.new) result)
-        × RunOver P.outside P.crash_states (plain_store secret.now segments) served.conversation (IsNewStore (plain_store secret.now segments)) platform.old platform.new result }
+        × RunOver P.outside P.crash_states (plain_store secret.now) served.conversation (IsNewStore (plain_store secret.now) segments) platform.old platform.new result }
     ensures words { result ≢ Usage }
     ensures scripts { (n : ℕ) → result ≢ Done (Formatted n) }
     ensures already { result ≡ AnchorCount true → IsTrue (P.outside platform.old).tells → (P.outside platform.old).anchor.0 ≢ 0 }
@@ -170,7 +170,7 @@ fn start<S: Source, K: Sink, P: Platform>(
 fn format<P: Platform>(alloc: Global, platform: &mut P, secret: &[u8; 32], segments: u32) -> Status
     requires least { 16 ≤ segments }
     requires most { segments ≤ 4096 }
-    ensures ran { (came gone : SourceContent) (c : Conversation came gone) → c.taken ≡ [] → c.lines ≡ [] → c.replies ≡ [] → c.next ≡ None → RunOver P.outside P.crash_states (plain_store secret.now segments) c (IsNewStore (plain_store secret.now segments)) platform.old platform.new result }
+    ensures ran { (came gone : SourceContent) (c : Conversation came gone) → c.taken ≡ [] → c.lines ≡ [] → c.replies ≡ [] → c.next ≡ None → RunOver P.outside P.crash_states (plain_store secret.now) c (IsNewStore (plain_store secret.now) segments) platform.old platform.new result }
     ensures words { result ≢ Usage }
     ensures formatted { (success : Success) → result ≡ Done success → success ≡ Formatted segments }
     ensures already { result ≡ AnchorCount true → IsTrue (P.outside platform.old).tells → (P.outside platform.old).anchor.0 ≢ 0 }
@@ -179,7 +179,7 @@ fn format<P: Platform>(alloc: Global, platform: &mut P, secret: &[u8; 32], segme
     ensures already_untouched { IsTrue (P.outside platform.old).tells → (P.outside platform.old).anchor.0 ≢ 0 → IsUnwritten (P.outside platform.old) (P.outside platform.new) }
     ensures refused { WasRefused result → (result ≡ AnchorCount true) × OnlyReads P.outside P.crash_states platform.old platform.new × IsSettled P.outside P.crash_states platform.new }
     ensures intact { (store : Store) → store.secret ≡ secret.now → StaysIntact store (P.outside platform.old) (P.outside platform.new) }
-    ensures goes_on { GoesOn (plain_store secret.now segments) (P.outside platform.old) (P.outside platform.new) }
+    ensures goes_on { GoesOn (plain_store secret.now) (P.outside platform.old) (P.outside platform.new) }
     ensures early { IsStopWithoutScript (P.outside platform.old) (P.outside platform.new) result }
 {
     match new_store(alloc, platform, secret, segments) {

@@ -41,20 +41,20 @@ pub(crate) fn new_store<P: Platform>(
     requires least { 16 ≤ segments }
     requires most { segments ≤ 4096 }
     ensures opened { IfOk result (λ s. IsOpened P.outside P.crash_states platform.new s) }
-    ensures store { IfOk result (λ s. store_of s ≡ plain_store secret.now segments) }
-    ensures begun { IfOk result (λ s. OverStart P.outside platform.old platform.new (plain_store secret.now segments)
-        (λ history from. HasBegun P.outside P.crash_states (plain_store secret.now segments) (IsNewStore (plain_store secret.now segments)) platform.old platform.new history from s)) }
-    ensures not_begun { IfErr result (λ status. OverStart P.outside platform.old platform.new (plain_store secret.now segments)
-        (λ history from. HasNotBegun P.outside P.crash_states (plain_store secret.now segments) (IsNewStore (plain_store secret.now segments)) platform.old platform.new history from status
-        × IsExplainedStop (plain_store secret.now segments) (P.outside platform.old) (P.outside platform.new) from status)) }
+    ensures store { IfOk result (λ s. store_of s ≡ plain_store secret.now) }
+    ensures begun { IfOk result (λ s. OverStart P.outside platform.old platform.new (plain_store secret.now)
+        (λ history from. HasBegun P.outside P.crash_states (plain_store secret.now) (IsNewStore (plain_store secret.now) segments) platform.old platform.new history from s)) }
+    ensures not_begun { IfErr result (λ status. OverStart P.outside platform.old platform.new (plain_store secret.now)
+        (λ history from. HasNotBegun P.outside P.crash_states (plain_store secret.now) (IsNewStore (plain_store secret.now) segments) platform.old platform.new history from status
+        × IsExplainedStop (plain_store secret.now) (P.outside platform.old) (P.outside platform.new) from status)) }
     ensures early { IfErr result (λ status. IsEarlyStop (P.outside platform.old) (P.outside platform.new) status) }
     ensures refused { IfErr result (λ status. WasRefused status → (status ≡ AnchorCount true) × OnlyReads P.outside P.crash_states platform.old platform.new × IsSettled P.outside P.crash_states platform.new) }
     ensures already { result ≡ Err (AnchorCount true) → IsTrue (P.outside platform.old).tells → (P.outside platform.old).anchor.0 ≢ 0 }
     ensures never { result ≢ Err (AnchorCount false) }
     ensures already_always { IsTrue (P.outside platform.old).tells → (P.outside platform.old).anchor.0 ≢ 0 → (result ≡ Err (AnchorCount true)) ⊎ (result ≡ Err PlatformFault) }
     ensures untouched { IsTrue (P.outside platform.old).tells → (P.outside platform.old).anchor.0 ≢ 0 → IsUnwritten (P.outside platform.old) (P.outside platform.new) }
-    ensures goes_on { GoesOn (plain_store secret.now segments) (P.outside platform.old) (P.outside platform.new) }
-    ensures whole { StaysIntact (plain_store secret.now segments) (P.outside platform.old) (P.outside platform.new) }
+    ensures goes_on { GoesOn (plain_store secret.now) (P.outside platform.old) (P.outside platform.new) }
+    ensures whole { StaysIntact (plain_store secret.now) (P.outside platform.old) (P.outside platform.new) }
 {
     match platform.anchor() {
         Err(Failed) => Err(Status::PlatformFault),
@@ -75,15 +75,15 @@ fn make_store<P: Platform>(
     requires least { 16 ≤ segments }
     requires most { segments ≤ 4096 }
     ensures opened { IfOk result (λ s. IsOpened P.outside P.crash_states platform.new s) }
-    ensures store { IfOk result (λ s. store_of s ≡ plain_store keys segments) }
-    ensures made { IfOk result (λ s. OverStart P.outside platform.old platform.new (plain_store keys segments)
-        (λ history from. HasMade P.outside P.crash_states (plain_store keys segments) (IsNewStore (plain_store keys segments)) platform.old platform.new history from s)) }
-    ensures not_made { IfErr result (λ status. OverStart P.outside platform.old platform.new (plain_store keys segments)
-        (λ history from. HasNotMade P.outside P.crash_states (plain_store keys segments) (IsNewStore (plain_store keys segments)) platform.old platform.new history from)) }
+    ensures store { IfOk result (λ s. store_of s ≡ plain_store keys) }
+    ensures made { IfOk result (λ s. OverStart P.outside platform.old platform.new (plain_store keys)
+        (λ history from. HasMade P.outside P.crash_states (plain_store keys) (IsNewStore (plain_store keys) segments) platform.old platform.new history from s)) }
+    ensures not_made { IfErr result (λ status. OverStart P.outside platform.old platform.new (plain_store keys)
+        (λ history from. HasNotMade P.outside P.crash_states (plain_store keys) (IsNewStore (plain_store keys) segments) platform.old platform.new history from)) }
     ensures why { IfErr result (IsStopOfMaking (P.outside platform.old) (P.outside platform.new)) }
     ensures never_refused { (refusal : Refusal) → result ≢ Err (Refused refusal) }
-    ensures goes_on { GoesOn (plain_store keys segments) (P.outside platform.old) (P.outside platform.new) }
-    ensures whole { StaysIntact (plain_store keys segments) (P.outside platform.old) (P.outside platform.new) }
+    ensures goes_on { GoesOn (plain_store keys) (P.outside platform.old) (P.outside platform.new) }
+    ensures whole { StaysIntact (plain_store keys) (P.outside platform.old) (P.outside platform.new) }
 {
     let mut store = match Store::format(alloc, platform, keys, segments) {
         Ok(store) => store,

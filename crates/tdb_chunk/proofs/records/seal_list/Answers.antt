@@ -2,21 +2,21 @@ use Rattle.std.proofs.Common.{inl, inr, List, ℕ, refl, ◌∙◌, ap, length, 
 use Rattle.std.proofs.lemmas.Result.{IfOk-weaker}
 use Rattle.tdb_list.specs.ChangeList.{list_bytes}
 use Rattle.tdb_list.proofs.ListSpelling.{length-list_bytes}
-use Rattle.tdb_seal.proofs.RecordSpelling.{length-plain_record}
+use Rattle.tdb_seal.proofs.RecordSpelling.{length-sealed_record}
 use Rattle.tdb_overlay.specs.Keys.{system_key}
 use Rattle.tdb_chunk.specs.Names.{list_name}
-use Rattle.tdb_chunk.proofs.Sealing.{plain_sealed}
+use Rattle.tdb_chunk.proofs.Sealing.{sealed_as}
 use Rattle.tdb_chunk.proofs.records.seal_list.Goals as goal
 
-pub seal_record-requires-clause-size : goal.seal_record-requires-clause-size
-seal_record-requires-clause-size c =
+pub seal_record-requires : goal.seal_record-requires
+seal_record-requires c =
     omega (arith, ap (λ (l : List ℕ). length l) (c.deref.ensures.value ∙ c.in_ok-list.ensures), length-list_bytes c.args.entries.now c.requires.values, c.requires.list.most)
 
 pub returns-clause-sealed : goal.returns-clause-sealed
 returns-clause-sealed c =
     let plain : List ℕ = list_bytes c.args.entries.now in
     IfOk-weaker c.seal_record.result _ _
-    (λ bytes spelled. plain_sealed 5 0 0 (system_key c.args.keys.now) plain c.deref.result.now bytes.items (omega (arith, length-list_bytes c.args.entries.now c.requires.values, c.requires.list.most)) (c.deref.ensures.value ∙ c.in_ok-list.ensures) spelled)
+    (λ bytes sealed. sealed_as (system_key c.args.keys.now) c.system.result.now.0 list_name plain c.deref.result.now bytes.items c.system.ensures (c.deref.ensures.value ∙ c.in_ok-list.ensures) sealed)
     c.seal_record.ensures
 
 pub returns-clause-is_record : goal.returns-clause-is_record
@@ -28,6 +28,7 @@ returns-clause-is_record c =
 
 pub returns-clause-size : goal.returns-clause-size
 returns-clause-size c =
+    let plain : List ℕ = list_bytes c.args.entries.now in
     IfOk-weaker c.seal_record.result _ _
-    (λ bytes spelled. omega (arith, ap (λ (l : List ℕ). length l) spelled, length-plain_record list_name c.deref.result.now, ap (λ (l : List ℕ). length l) (c.deref.ensures.value ∙ c.in_ok-list.ensures), length-list_bytes c.args.entries.now c.requires.values))
-    c.seal_record.ensures
+    (λ bytes sealed. omega (arith, length-sealed_record (system_key c.args.keys.now) list_name plain bytes.items sealed, length-list_bytes c.args.entries.now c.requires.values))
+    (returns-clause-sealed c)

@@ -53,7 +53,7 @@ returns-then-is_some-clause-explained g c t whole given at =
     let chain = c.in_ok-chain.chain in
     let ends = c.in_ok-chain.ensures.ends t whole given at in
     let step = base_step old.trace.written new.trace c.args.keys.now whole given chain.base (reverse chain.commits.items) c.in_ok-chain.ensures.format c.in_ok-chain.ensures.base ends in
-    false≢true (sym (c.is_some.ensures ∙ ap (λ (o : Option Piece). is_some o) step.checkpoint.root) ∙ c.if-is_some.true)
+    false≢true (sym (c.is_some.ensures ∙ ap (λ (o : Option Piece). is_some o) step.checkpoint.tree.0) ∙ c.if-is_some.true)
 
 pub returns-in_err-segments-clause-reads : goal.returns-in_err-segments-clause-reads
 returns-in_err-segments-clause-reads g c =

@@ -27,7 +27,7 @@ returns-in-Some-Start-clause-served g c =
       served = served.0;
       start = λ segments is.
           subst
-          (λ (n : ℕ). RunOver g.P.Platform.outside g.P.Platform.crash_states (plain_store c.args.secret.now n) served.0.conversation (IsNewStore (plain_store c.args.secret.now n)) c.args.platform.now c.start.new.platform c.start.result)
+          (λ (n : ℕ). RunOver g.P.Platform.outside g.P.Platform.crash_states (plain_store c.args.secret.now) served.0.conversation (IsNewStore (plain_store c.args.secret.now) n) c.args.platform.now c.start.new.platform c.start.result)
           (one_start words c.in-Some-Start.segments segments said is) served.1;
       format = λ segments is. absurd (start_not_format words c.in-Some-Start.segments segments said is);
       reopened = λ is. absurd (start_not_run words c.in-Some-Start.segments said is);
@@ -47,7 +47,7 @@ returns-in-Some-Format-clause-served g c =
         refl,
         c.format.ensures.early,
         subst
-            (λ (n : ℕ). RunOver g.P.Platform.outside g.P.Platform.crash_states (plain_store c.args.secret.now n) (no_conversation came) (IsNewStore (plain_store c.args.secret.now n)) old new c.format.result)
+            (λ (n : ℕ). RunOver g.P.Platform.outside g.P.Platform.crash_states (plain_store c.args.secret.now) (no_conversation came) (IsNewStore (plain_store c.args.secret.now) n) old new c.format.result)
             (one_format words c.in-Some-Format.segments segments said is) (c.format.ensures.ran came came (no_conversation came) refl refl refl refl),
       );
       reopened = λ is. absurd (format_not_run words c.in-Some-Format.segments said is);

@@ -31,7 +31,7 @@ returns-in-Ok-clause-sealed g c =
     let old = g.P.Platform.outside c.args.platform.now in
     let mid = g.P.Platform.outside c.open_store.new.platform in
     let new = g.P.Platform.outside c.serve.new.platform in
-    let goes = c.open_store.ensures.goes_on (plain_store c.args.secret.now 0) refl in
+    let goes = c.open_store.ensures.goes_on (plain_store c.args.secret.now) refl in
     only_sealed_along c.args.secret.now old mid new goes.tells goes.sealed (subst (λ (secret : List ℕ). OnlySealed secret mid new) c.in-Ok.ensures.keys c.serve.ensures.goes_on.sealed)
 
 pub returns-in-Ok-clause-causes : goal.returns-in-Ok-clause-causes
@@ -39,12 +39,12 @@ returns-in-Ok-clause-causes g c =
     let came = g.S.Source.content c.args.source.now in
     let before = g.K.Sink.content c.args.sink.now in
     caused_since came came (g.S.Source.content c.serve.new.source) before before (g.K.Sink.content c.serve.new.sink) (g.P.Platform.outside c.args.platform.now) (g.P.Platform.outside c.open_store.new.platform) (g.P.Platform.outside c.serve.new.platform) c.serve.result
-    (omega arith) (omega arith) (c.open_store.ensures.goes_on (plain_store c.args.secret.now 0) refl).faults c.serve.ensures.caused
+    (omega arith) (omega arith) (c.open_store.ensures.goes_on (plain_store c.args.secret.now) refl).faults c.serve.ensures.caused
 
 pub returns-in-Ok-clause-keeps : goal.returns-in-Ok-clause-keeps
 returns-in-Ok-clause-keeps g c =
-    keeps_since (g.S.Source.content c.args.source.now) (g.S.Source.content c.serve.new.source) (g.K.Sink.content c.args.sink.now) (g.K.Sink.content c.serve.new.sink) (plain_store c.args.secret.now 0)
-    (g.P.Platform.outside c.args.platform.now) (g.P.Platform.outside c.open_store.new.platform) (g.P.Platform.outside c.serve.new.platform) (c.open_store.ensures.goes_on (plain_store c.args.secret.now 0) refl) c.serve.ensures.keeps
+    keeps_since (g.S.Source.content c.args.source.now) (g.S.Source.content c.serve.new.source) (g.K.Sink.content c.args.sink.now) (g.K.Sink.content c.serve.new.sink) (plain_store c.args.secret.now)
+    (g.P.Platform.outside c.args.platform.now) (g.P.Platform.outside c.open_store.new.platform) (g.P.Platform.outside c.serve.new.platform) (c.open_store.ensures.goes_on (plain_store c.args.secret.now) refl) c.serve.ensures.keeps
 
 pub returns-in-Err-clause-served : goal.returns-in-Err-clause-served
 returns-in-Err-clause-served g c =
@@ -61,12 +61,12 @@ returns-in-Err-clause-served g c =
     )
 
 pub returns-in-Err-clause-sealed : goal.returns-in-Err-clause-sealed
-returns-in-Err-clause-sealed g c = (c.open_store.ensures.goes_on (plain_store c.args.secret.now 0) refl).sealed
+returns-in-Err-clause-sealed g c = (c.open_store.ensures.goes_on (plain_store c.args.secret.now) refl).sealed
 
 pub returns-in-Err-clause-keeps : goal.returns-in-Err-clause-keeps
 returns-in-Err-clause-keeps g c =
-    keeps_platform (g.S.Source.content c.args.source.now) (g.K.Sink.content c.args.sink.now) (plain_store c.args.secret.now 0) (g.P.Platform.outside c.args.platform.now) (g.P.Platform.outside c.open_store.new.platform)
-    (c.open_store.ensures.goes_on (plain_store c.args.secret.now 0) refl)
+    keeps_platform (g.S.Source.content c.args.source.now) (g.K.Sink.content c.args.sink.now) (plain_store c.args.secret.now) (g.P.Platform.outside c.args.platform.now) (g.P.Platform.outside c.open_store.new.platform)
+    (c.open_store.ensures.goes_on (plain_store c.args.secret.now) refl)
 
 pub returns-in-Ok-clause-refused : goal.returns-in-Ok-clause-refused
 returns-in-Ok-clause-refused g c was = absurd (script_not_refused c.serve.result c.serve.ensures.script was)

@@ -30,7 +30,7 @@ pub returns-else-may_make-clause-not_made : goal.returns-else-may_make-clause-no
 returns-else-may_make-clause-not_made g c told sound history from is at =
     let old = g.P.Platform.outside c.args.platform.now in
     let store = store_of c.args.store in
-    let in_range = log_in_range (in_trace old.trace.written) store (first_state store) is.chain history from empty_in_range is.tells in (
+    let in_range = log_in_range (in_trace old.trace.written) store first_state is.chain history from empty_in_range is.tells in (
       not_made_as_is g.P.Platform.outside g.P.Platform.crash_states g.met.P.Platform.counts store c.args.platform.now told c.requires.settled history from is (IsReopened store),
       (
         λ user.

@@ -15,7 +15,7 @@ use Rattle.tdb_chunk.specs.Formatting.{Formatted, plain_store}
 use Rattle.tdb_chunk.specs.Text.{anchor_of, text_in_slot}
 use Rattle.tdb_chunk.proofs.Keeping.{format_keeps}
 use Rattle.tdb_chunk.proofs.Growing.{added_always, added_err, added_ok, none_added}
-use Rattle.tdb_chunk.proofs.Logs.{unread_by}
+use Rattle.tdb_overlay.proofs.PutLogs.{unread_by}
 use Rattle.tdb_chunk.proofs.Starting.{format_added}
 use Rattle.tdb_chunk.proofs.store.Store.format.Goals as goal
 
@@ -39,7 +39,7 @@ returns-in_default-clause-added g c tells =
     let ps : List Placed = placed batch.pieces.items in
     let puts = subst (λ (l : List Laid). Puts outside g.P.Platform.crash_states c.args.platform.now c.put_commit.new.platform (placed l ++ text_in_slot secret commit ∷ []) (anchor_of secret commit) c.put_commit.result) c.deref.ensures.value c.put_commit.ensures.puts in
     added_always outside g.P.Platform.crash_states (λ _. Unit {0}) _ _ c.args.platform.now c.put_commit.new.platform _ (λ before from is. tt)
-    (added_err outside g.P.Platform.crash_states (λ _. Unit {0}) (Formatted (plain_store secret c.args.segments)) (plain_store secret c.args.segments) c.args.platform.now c.put_commit.new.platform c.put_commit.result _ refl
+    (added_err outside g.P.Platform.crash_states (λ _. Unit {0}) (Formatted (plain_store secret) c.args.segments) (plain_store secret) c.args.platform.now c.put_commit.new.platform c.put_commit.result _ refl
     (format_added outside g.P.Platform.crash_states g.met.P.Platform.counts secret c.no_head-head.result c.args.segments commit ps batch.segments c.args.platform.now c.put_commit.new.platform c.put_commit.result
     c.in_ok-commit.ensures.start c.no_head-head.ensures.count c.no_head-head.ensures.mark c.put_commit.ensures.reads tells (c.requires.first tells) c.requires.settled puts (c.put_commit.ensures.advanced tells) (c.put_commit.ensures.only tells)))
 
@@ -52,7 +52,7 @@ returns-clause-added g c tells =
     let ps : List Placed = placed batch.pieces.items in
     let puts = subst (λ (l : List Laid). Puts outside g.P.Platform.crash_states c.args.platform.now c.put_commit.new.platform (placed l ++ text_in_slot secret commit ∷ []) (anchor_of secret commit) c.put_commit.result) c.deref.ensures.value c.put_commit.ensures.puts in
     added_always outside g.P.Platform.crash_states (λ _. Unit {0}) _ _ c.args.platform.now c.put_commit.new.platform _ (λ before from is. tt)
-    (added_ok outside g.P.Platform.crash_states (λ _. Unit {0}) (Formatted (plain_store secret c.args.segments)) (plain_store secret c.args.segments) c.args.platform.now c.put_commit.new.platform c.put_commit.result _ _ c.in-Ok.is
+    (added_ok outside g.P.Platform.crash_states (λ _. Unit {0}) (Formatted (plain_store secret) c.args.segments) (plain_store secret) c.args.platform.now c.put_commit.new.platform c.put_commit.result _ _ c.in-Ok.is
     (format_added outside g.P.Platform.crash_states g.met.P.Platform.counts secret c.no_head-head.result c.args.segments commit ps batch.segments c.args.platform.now c.put_commit.new.platform c.put_commit.result
     c.in_ok-commit.ensures.start c.no_head-head.ensures.count c.no_head-head.ensures.mark c.put_commit.ensures.reads tells (c.requires.first tells) c.requires.settled puts (c.put_commit.ensures.advanced tells) (c.put_commit.ensures.only tells)))
 
@@ -74,7 +74,7 @@ pub returns-clause-knows : goal.returns-clause-knows
 returns-clause-knows g c =
     let o = g.P.Platform.outside c.put_commit.new.platform in
     let secret : List ℕ = c.args.keys in
-    let finds : Finds = needed o.trace.written (plain_store secret c.in_ok-commit.field-0.batch.segments.segments) o.anchor in
+    let finds : Finds = needed o.trace.written (plain_store secret) o.anchor in
     let head = c.in-Ok.ensures.head in
     let start = c.in_ok-commit.ensures.start in
     record {

@@ -51,3 +51,9 @@ returns-clause-unread g c = λ lacks.
 pub returns-clause-tampered : goal.returns-clause-tampered
 returns-clause-tampered g c damage is tells last known =
     damaged_chunk (g.P.Platform.outside c.args.platform.now) (g.P.Platform.outside c.read_chunk.new.platform) c.args.self.now last known c.args.part.0 c.args.rank.0 c.in-Here.piece damage c.in-Here.ensures tells (c.read_chunk.ensures.tampered damage is)
+
+pub returns-clause-form : goal.returns-clause-form
+returns-clause-form g c tells unforged last known place is =
+    let o = g.P.Platform.outside c.args.platform.now in
+    let k = known_chunk o c.args.self.now last known c.args.part.0 c.args.rank.0 c.in-Some.leader c.in-Some.ensures c.in-Here.piece c.in-Here.ensures in
+    c.read_chunk.ensures.form tells unforged k.sealed k.bytes k.found.0 k.opened place is
