@@ -1,0 +1,221 @@
+-- A commit of the notes of a transaction.
+use Rattle.std.proofs.Common.{◌≡◌, ◌≢◌, ◌⊎◌, ◌<◌, ◌≤◌, inl, inr, ⊎_elim, ℕ, List, [], ◌∷◌, Option, Some, None, length, false, refl, sym}
+use Rattle.std.proofs.Common.{◌∙◌, ap, subst, arith}
+use Rattle.std.proofs.lemmas.Bool.{false≢true}
+use Rattle.std.specs.Prelude.{Err, IfErr, IfOk, Ok, OnOk, Result}
+use Rattle.tdb_base.specs.declared.names.TxId.{TxId}
+use Rattle.tdb_model.specs.Apply.{apply_all}
+use Rattle.tdb_model.specs.Check.{check_commit}
+use Rattle.tdb_model.specs.HasCommitted.{HasCommitted}
+use Rattle.tdb_model.specs.IsLawful.{IsLawful}
+use Rattle.tdb_model.specs.Meanings.{Meanings}
+use Rattle.tdb_model.specs.State.{State}
+use Rattle.tdb_model.specs.declared.change.Change.{Change}
+use Rattle.tdb_model.specs.declared.error.CommitError.{CommitError}
+use Rattle.tdb_model.specs.declared.error.CommitError.TheVariants as errors
+use Rattle.tdb_model.proofs.RefusalLemmas.{of_check}
+use Rattle.tdb_script.specs.LineSpelling.{commit}
+use Rattle.tdb_script.specs.declared.reply.Reply.{Reply}
+use Rattle.tdb_script.specs.declared.reply.Reply.TheVariants.{Committed}
+use Rattle.tdb_serve.specs.declared.script_end.Stop.{Stop}
+use Rattle.tdb_serve.specs.declared.script_end.Stop.TheVariants as stops
+use Rattle.tdb_notes.specs.NotesMachine.{LineAnswered, LineUnanswered}
+use Rattle.tdb_notes.specs.Script.{Answer, IsCommitAnswer, IsRefusedBy, ScriptState, changes_of, closed, refusal_reply, replied, tx}
+use Rattle.tdb_notes.specs.Script as script
+use Rattle.tdb_notes.specs.SessionState.{notes_of, numbered, transaction_in, transaction_of}
+use Rattle.tdb_notes.specs.declared.notes.Notes.{Notes}
+use Rattle.tdb_notes.specs.declared.transaction.Transaction.{Transaction}
+use Rattle.tdb_notes.specs.declared.transaction.NewNote.{NewNote}
+use Rattle.tdb_notes.proofs.Lines.{pure_line, still_line, still_stop}
+use Rattle.tdb_notes.proofs.Transactions.{answered_in, numbered_some, state_transaction}
+
+module _ {C T : Type 0} (m : Meanings C) (changes : List Change) (old new : C) (going : m.is_stopped old ≡ false) where
+  -- a refusal for room comes where the state allows the changes
+  allowed_by : (e : CommitError) → HasCommitted m changes old new {T = T} (Err e) → ((s : State) → check_commit s changes ≡ Some e → ⊥)
+      → e ≢ errors.Memory → e ≢ errors.Fault
+      → m.told new → (s : State) → m.state old s → (o : Option CommitError) → check_commit s changes ≡ o → o ≡ None
+  allowed_by e h not_checked memory fault told s at None is = refl
+  allowed_by e h not_checked memory fault told s at (Some x) is =
+      ⊎_elim (λ same. absurd (not_checked s (is ∙ cc same)))
+      (λ more. ⊎_elim (λ wants. absurd (memory (cc wants))) (λ fails. absurd (fault (cc fails))) more)
+      (h.checked told s at going x is)
+
+  -- the cause of a refusal
+  pub refused_by : (e : CommitError) → HasCommitted m changes old new {T = T} (Err e) → e ≢ errors.Memory → e ≢ errors.Fault → m.told new
+      → (s : State) → m.state old s → IsRefusedBy m new s changes e
+  refused_by errors.Stopped h memory fault told s at = absurd (false≢true (sym going ∙ h.cause))
+  refused_by (errors.TooManyChanges number) h memory fault told s at = inl (h.cause told s at)
+  refused_by errors.PartitionNumber h memory fault told s at = inl (h.cause told s at)
+  refused_by (errors.NoPartition part) h memory fault told s at = inl (h.cause told s at)
+  refused_by (errors.PartitionExists part) h memory fault told s at = inl (h.cause told s at)
+  refused_by (errors.PartitionTwice part) h memory fault told s at = inl (h.cause told s at)
+  refused_by (errors.Frozen part) h memory fault told s at = inl (h.cause told s at)
+  refused_by errors.RankTooLarge h memory fault told s at = inl (h.cause told s at)
+  refused_by errors.ChunkTooLong h memory fault told s at = inl (h.cause told s at)
+  refused_by errors.RingFull h memory fault told s at = inr (
+    allowed_by errors.RingFull h (λ s is. of_check s changes errors.RingFull is)
+        memory fault told s at (check_commit s changes) refl,
+    h.cause,
+  )
+  refused_by errors.CounterEnd h memory fault told s at = inr (
+    allowed_by errors.CounterEnd h (λ s is. of_check s changes errors.CounterEnd is) memory fault told s at (check_commit s changes)
+        refl,
+    h.cause.0,
+  )
+  refused_by (errors.NoRoom room) h memory fault told s at = inr (
+    allowed_by (errors.NoRoom room) h (λ s is. of_check s changes (errors.NoRoom room) is) memory fault told s at
+        (check_commit s changes) refl,
+    h.cause,
+  )
+  refused_by errors.Memory h memory fault told s at = absurd (memory refl)
+  refused_by errors.Fault h memory fault told s at = absurd (fault refl)
+
+  -- what is committed the state allows
+  pub allowed_ok : (x : T) → HasCommitted m changes old new {T = T} (Ok x) → m.told new → (s : State) → m.state old s
+      → (o : Option CommitError) → check_commit s changes ≡ o → o ≡ None
+  allowed_ok x h told s at None is = refl
+  allowed_ok x h told s at (Some e) is = ⊎_elim (λ same. absurd (cc same))
+      (λ more. ⊎_elim (λ wants. absurd (cc wants)) (λ fails. absurd (cc fails)) more) (h.checked told s at going e is)
+
+module _ {C : Type 0} (m : Meanings C) (old new : C) where
+  -- The answer to a commit of some changes, by their cases.
+  made_answer : (s : ScriptState) (t : script.Transaction) (cs : List Change) (given : Answer) → 1 ≤ length cs
+      → check_commit s.chunks cs ≡ None → m.count old < m.count new
+      → (let answer : Answer = record {
+        reply = Committed (tx t.number);
+        next = record (closed s) { chunks = apply_all (m.count new) s.chunks cs };
+        added = (m.count new, cs) ∷ [];
+      } in given ≡ answer) → IsCommitAnswer m old new s t cs given
+  made_answer s t [] given some allowed greater is = absurd (omega (arith, some))
+  made_answer s t (c ∷ cs) given some allowed greater is = inl (allowed, greater, is)
+
+  refused_answer : (s : ScriptState) (t : script.Transaction) (cs : List Change) (given : Answer) (e : CommitError) → 1 ≤ length cs
+      → IsRefusedBy m new s.chunks cs e → given ≡ replied (refusal_reply e) s
+      → IsCommitAnswer m old new s t cs given
+  refused_answer s t [] given e some by is = absurd (omega (arith, some))
+  refused_answer s t (c ∷ cs) given e some by is = inr (e, by, is)
+
+  -- A transaction that made nothing commits nothing.
+  empty_answer : (s : ScriptState) (t : script.Transaction) (cs : List Change) (given : Answer) → cs ≡ []
+      → given ≡ replied (Committed (tx t.number)) (closed s) → IsCommitAnswer m old new s t cs given
+  empty_answer s t [] given none is = is
+  empty_answer s t (c ∷ cs) given none is = absurd (cc none)
+
+-- the transaction of a machine, with the notes that it made
+module _ {C T : Type 0} (m : Meanings C) (old new : Notes C) (number : TxId) (open' : Transaction)
+    (found : numbered old.session.transaction number ≡ Some open')
+    (going : m.is_stopped old.store ≡ false) (changes : List Change) (some : 1 ≤ length changes)
+    (are : changes ≡ changes_of (notes_of open'.notes.items)) where
+  -- it was committed
+  pub committed_line : (x : T) → HasCommitted m changes old.store new.store {T = T} (Ok x)
+      → transaction_in new.session.transaction ≡ None → new.session.next_id ≡ old.session.next_id
+      → LineAnswered m old (commit number.0) (Committed number) new
+  committed_line x h none drawn = (
+    record {
+      added = (m.count new.store, changes) ∷ [];
+      runs = h.ok.runs;
+      steps = λ known s at.
+          let next : ScriptState = record (closed s) { chunks = apply_all (m.count new.store) s.chunks changes } in
+          let given : Answer = record { reply = Committed number; next = next; added = (m.count new.store, changes) ∷ [] } in
+          let allowed = allowed_ok m changes old.store new.store going x h known s.chunks at.store (check_commit s.chunks changes) refl in
+          let same = (numbered_some old.session.transaction number open' found).same in
+          let answer : IsCommitAnswer m old.store new.store s (transaction_of open') changes given =
+          made_answer m old.store new.store s (transaction_of open') changes given some allowed h.ok.count
+          (ap (λ (n : ℕ). let other : Answer = record {
+            reply = Committed (tx n);
+            next = next;
+            added = (m.count new.store, changes) ∷
+                [];
+          } in other) (sym same)) in (
+            next,
+            answered_in old.session number open' found s at.session
+                (λ t given. IsCommitAnswer m old.store new.store s t (changes_of t.notes) given) given
+                (subst (λ (cs : List Change). IsCommitAnswer m old.store new.store s (transaction_of open') cs given) are answer),
+            record {
+              store = h.ok.state known s.chunks at.store;
+              session = record
+                  { next_id = drawn ∙ at.session.next_id; transaction = none };
+            },
+          );
+    },
+    h.faults.none (λ is. absurd (cc is)),
+  )
+
+  -- it was refused
+  pub refused_line : (e : CommitError) → HasCommitted m changes old.store new.store {T = T} (Err e) → new.session ≡ old.session
+      → (reply : Reply) → e ≢ errors.Memory → e ≢ errors.Fault → reply ≡ refusal_reply e
+      → LineAnswered m old (commit number.0) reply new
+  refused_line e h session reply memory fault is =
+      still_line m old new (commit number.0) reply (h.refused fault) session (h.faults.none (λ bad. fault (cc bad)))
+      (λ known s at.
+      answered_in old.session number open' found s at.session
+      (λ t given. IsCommitAnswer m old.store new.store s t (changes_of t.notes) given) (replied reply s)
+      (subst (λ (cs : List Change). IsCommitAnswer m old.store new.store s (transaction_of open') cs (replied reply s)) are
+      (refused_answer m old.store new.store s (transaction_of open') changes (replied reply s) e some
+      (refused_by m changes old.store new.store going e h memory fault known s.chunks at.store)
+      (ap (λ (r : Reply). replied r s) is))))
+
+  -- it was begun and met a fault, or there was no memory for it
+  pub stopped_line : (e : CommitError) → HasCommitted m changes old.store new.store {T = T} (Err e) → (stop : Stop)
+      → ((e ≡ errors.Memory) × (stop ≡ stops.Memory)) ⊎ ((e ≡ errors.Fault) × (stop ≡ stops.PlatformFault))
+      → LineUnanswered m old (commit number.0) stop new
+  stopped_line e h stop (inl is) =
+      let fine : e ≢ errors.Fault = λ bad. absurd (cc (bad, is.0)) in
+      subst (λ (k : Stop). LineUnanswered m old (commit number.0) k new) (sym is.1)
+      (still_stop m old new (commit number.0) stops.Memory (h.refused fine).runs (h.faults.none (λ bad. fine (cc bad))))
+  stopped_line e h stop (inr is) =
+      let begun = h.begun (ap Err is.0) in
+      subst (λ (k : Stop). LineUnanswered m old (commit number.0) k new) (sym is.1) (
+        record {
+          maybe = (begun.count, changes) ∷ [];
+          runs = begun.runs;
+          begun = λ known s at.
+              inr (
+                transaction_of open',
+                state_transaction old.session number open' found s at.session,
+                (numbered_some old.session.transaction number open' found).same,
+                (begun.count, begun.greater, ap (λ (cs : List Change). (begun.count, cs) ∷ []) are),
+              );
+        },
+        h.faults.rose (ap Err is.0),
+      )
+
+  pub tried_ok : (result : Result Reply Stop) (e : CommitError) → HasCommitted m changes old.store new.store {T = T} (Err e)
+      → new.session ≡ old.session
+      → IfOk result (λ reply. (e ≢ errors.Memory) × (e ≢ errors.Fault) × (reply ≡ refusal_reply e))
+      → IfOk result (λ reply. LineAnswered m old (commit number.0) reply new)
+  tried_ok (Ok reply) e h session is = refused_line e h session reply is.0 is.1 is.2
+  tried_ok (Err stop) e h session is = tt
+
+  pub tried_err : (result : Result Reply Stop) (e : CommitError) → HasCommitted m changes old.store new.store {T = T} (Err e)
+      → IfErr result (λ stop. ((e ≡ errors.Memory) × (stop ≡ stops.Memory)) ⊎ ((e ≡ errors.Fault) × (stop ≡ stops.PlatformFault)))
+      → IfErr result (λ stop. LineUnanswered m old (commit number.0) stop new)
+  tried_err (Ok reply) e h is = tt
+  tried_err (Err stop) e h is = stopped_line e h stop is
+
+  -- the store goes on behind a refusal
+  pub tried_goes_on : (result : Result Reply Stop) (e : CommitError) → HasCommitted m changes old.store new.store {T = T} (Err e)
+      → IfOk result (λ reply. (e ≢ errors.Memory) × (e ≢ errors.Fault) × (reply ≡ refusal_reply e))
+      → OnOk result (m.is_stopped new.store ≡ false)
+  tried_goes_on (Ok reply) e h is = h.goes_on (λ bad. is.1 (cc bad)) ∙ going
+  tried_goes_on (Err stop) e h is = tt
+
+-- a transaction that made nothing
+pub empty_line : {C : Type 0} (m : Meanings C) → IsLawful m → (old new : Notes C) (number : TxId) (open' : Transaction)
+    → numbered old.session.transaction number ≡ Some open' → length open'.notes.items ≡ 0
+    → new.store ≡ old.store → transaction_in new.session.transaction ≡ None → new.session.next_id ≡ old.session.next_id
+    → LineAnswered m old (commit number.0) (Committed number) new
+empty_line m laws old new number open' found empty store none drawn =
+    let same = (numbered_some old.session.transaction number open' found).same in
+    pure_line m laws old new (commit number.0) (Committed number) store (λ s. replied (Committed number) (closed s))
+    (λ s at. record { reply_is = refl; at = record { next_id = drawn ∙ at.next_id; transaction = none }; chunks = refl; none = refl })
+    (λ s at.
+    answered_in old.session number open' found s at (λ t given. IsCommitAnswer m old.store new.store s t (changes_of t.notes) given)
+    (replied (Committed number) (closed s))
+    (empty_answer m old.store new.store s (transaction_of open') (changes_of (notes_of open'.notes.items))
+    (replied (Committed number) (closed s))
+    (no_writes_of open'.notes.items empty) (ap (λ (n : ℕ). replied (Committed (tx n)) (closed s)) (sym same))))
+  where
+    no_writes_of : (notes : List NewNote) → length notes ≡ 0 → changes_of (notes_of notes) ≡ []
+    no_writes_of [] none = refl
+    no_writes_of (n ∷ notes) none = absurd (omega (arith, none))

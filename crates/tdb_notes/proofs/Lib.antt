@@ -1,0 +1,6 @@
+pub mod Commits
+pub mod Complete
+pub mod Lines
+pub mod NoteWrites
+pub mod Ran
+pub mod Transactions

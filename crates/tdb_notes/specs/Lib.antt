@@ -1,0 +1,4 @@
+pub mod Drawn
+pub mod NotesMachine
+pub mod Script
+pub mod SessionState

@@ -1,0 +1,82 @@
+// What notes, chunks and refusals are answered.
+ghost use Rattle.std.specs.Prelude.{◌≡◌, ◌≢◌, ◌⊎◌, IfOk, IfErr, Some, All};
+ghost use Rattle.tdb_model.specs.HasCommitted.{IsShort};
+ghost use Rattle.tdb_model.specs.declared.error.CommitError.TheVariants as errors;
+ghost use Rattle.tdb_script.specs.NoteText.{IsNoteText};
+ghost use Rattle.tdb_script.specs.declared.reply.Reply.TheVariants.{Got};
+ghost use Rattle.tdb_serve.specs.declared.script_end.Stop.TheVariants as stops;
+ghost use Rattle.tdb_notes.specs.Script.{IsChunkReply, changes_of, refusal_reply};
+ghost use Rattle.tdb_notes.specs.SessionState.{notes_of};
+
+use crate::session::NOTES_PART;
+use crate::transaction::{NewNote, new_note};
+use std::alloc::{AllocError, Global};
+use tdb_base::{Rank, TxId};
+use tdb_model::{Change, CommitError};
+use tdb_script::{Reply, read_stored_note, stored_note};
+use tdb_serve::Stop;
+
+/// The reply with a note's text.
+pub(crate) fn got(alloc: Global, number: TxId, id: Rank, text: &[u8]) -> Result<Reply, AllocError>
+    requires { IsNoteText text.now }
+    ensures { IfOk result (λ reply. reply ≡ Got number id text.now) }
+{
+    let note = new_note(alloc, text)?;
+    Ok(Reply::Got(number, id, note))
+}
+
+/// The reply to `get` by the chunk of the id.
+pub(crate) fn chunk_reply(
+    alloc: Global,
+    number: TxId,
+    id: Rank,
+    chunk: &[u8],
+) -> Result<Reply, AllocError>
+    ensures { IfOk result (λ reply. IsChunkReply number.0 id.0 (Some chunk.now) reply) }
+{
+    match read_stored_note(chunk) {
+        Some(text) => got(alloc, number, id, text),
+        None => Ok(Reply::RefusedPickle(NOTES_PART, id)),
+    }
+}
+
+/// The writes of notes.
+pub(crate) fn writes(alloc: Global, notes: &[NewNote]) -> Result<Vec<Change>, AllocError>
+    ensures writes { IfOk result (λ changes. changes.items ≡ changes_of (notes_of notes.now)) }
+    ensures short { IfOk result (λ changes. All IsShort changes.items) }
+{
+    let mut changes = Vec::with_capacity(alloc, notes.len())?;
+    for new in notes {
+        let bytes = stored_note(alloc, new.note.text())?;
+        changes.push(Change::Write {
+            part: NOTES_PART,
+            rank: new.id,
+            bytes,
+        })?;
+    }
+    Ok(changes)
+}
+
+/// The reply to a commit that is refused, or why there is none.
+pub(crate) fn refusal(error: CommitError) -> Result<Reply, Stop>
+    ensures reply { IfOk result (λ reply. (error ≢ errors.Memory) × (error ≢ errors.Fault) × (reply ≡ refusal_reply error)) }
+    ensures stop { IfErr result (λ stop. ((error ≡ errors.Memory) × (stop ≡ stops.Memory))
+        ⊎ ((error ≡ errors.Fault) × (stop ≡ stops.PlatformFault))) }
+{
+    match error {
+        CommitError::TooManyChanges { number } => Ok(Reply::RefusedChanges(number)),
+        CommitError::RingFull => Ok(Reply::RefusedRing),
+        CommitError::CounterEnd => Ok(Reply::RefusedCounter),
+        CommitError::NoRoom(room) => Ok(Reply::RefusedFull(room)),
+        CommitError::Memory => Err(Stop::Memory),
+        CommitError::Fault => Err(Stop::PlatformFault),
+        CommitError::Stopped
+        | CommitError::PartitionNumber
+        | CommitError::NoPartition { .. }
+        | CommitError::PartitionExists { .. }
+        | CommitError::PartitionTwice { .. }
+        | CommitError::Frozen { .. }
+        | CommitError::RankTooLarge
+        | CommitError::ChunkTooLong => Ok(Reply::RefusedUnbuilt),
+    }
+}

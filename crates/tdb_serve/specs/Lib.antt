@@ -1,0 +1,12 @@
+pub mod Answering
+pub mod Ends
+pub mod Faults
+pub mod Gave
+pub mod OneLine
+pub mod PutReply
+pub mod Replies
+pub mod Running
+pub mod Served
+pub mod Stopping
+pub mod Taking
+pub mod Unread
