@@ -1,0 +1,5 @@
+pub mod Objects
+pub mod Pickle
+pub mod Keys
+pub mod ClassName
+pub mod AppLaws

@@ -1,0 +1,2 @@
+pub mod SameField
+pub mod SameText

@@ -1,0 +1,16 @@
+pub mod Spelling
+pub mod SpellingLaws
+pub mod Pair
+pub mod PairLaws
+pub mod Entries
+pub mod Catalog
+pub mod CatalogLaws
+pub mod Head
+pub mod HeadLaws
+pub mod Inner
+pub mod Node
+pub mod Directory
+pub mod Bucket
+pub mod BodyLaws
+pub mod Stored
+pub mod StoredLaws
