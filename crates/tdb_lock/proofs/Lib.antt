@@ -1,0 +1,4 @@
+pub mod ClaimOrder
+pub mod Conflicts
+pub mod Exclusion
+pub mod Granting

@@ -1,0 +1,3 @@
+pub mod AreExclusive
+pub mod Conflict
+pub mod HeldLocks
