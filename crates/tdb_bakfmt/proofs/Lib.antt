@@ -1,0 +1,3 @@
+pub mod EndSpelling
+pub mod HeaderSpelling
+pub mod ItemSpelling
