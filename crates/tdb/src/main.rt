@@ -1,31 +1,49 @@
 //! The program: its words, its files, standard input and output, and one call of the run.
 //!
-//! It stands on the run for all that a database does. Its modules are the trusted edge: files as a platform, a reader
-//! as a source and a writer as a sink, of which no clause says what the system gives or takes. A fault that the program
-//! finds by itself is told before anything of the device is read.
+//! It stands on the run for all that a database does, and on tdb_files for the system. A fault that the
+//! program finds by itself is told before anything of the device is read, and what it made by then and
+//! nothing was written to is removed again.
 #![tactic(auto)]
 
-mod fault;
-mod file_platform;
-mod given;
-mod standard;
-#[cfg(test)]
-mod tests;
-
-use fault::Fault;
-use file_platform::FilePlatform;
-use standard::{StdSink, StdSource};
 use std::alloc::AllocError;
-use std::io::BufReader;
+use std::env;
+use std::io::{BufReader, ErrorKind};
 use std::process::ExitCode;
+use tdb_files::{HeldFiles, StdSink, StdSource, secret_in, take_standard_descriptors};
 use tdb_run::run;
 use tdb_stream::Sink;
 
-// How much of standard input one system call takes.
+/// How much of standard input one system call takes.
 const INPUT_BUFFER: usize = 65_536;
 
-// The status of a program whose line can't be put.
+/// The status of a program whose line can't be put.
 const SINK_FAULT: u8 = 7;
+
+/// A fault of the program's own words, files or memory. Its number is the exit status.
+#[derive(Clone, Copy)]
+enum Fault {
+    /// The words have none of the forms.
+    Usage = 2,
+    /// A standard descriptor can't be taken, or the device file or the anchor file can't be opened,
+    /// made or locked.
+    Platform = 5,
+    /// Memory is wanting.
+    Memory = 8,
+    /// The secret file can't be read, or it hasn't 32 bytes.
+    Secret = 11,
+}
+
+impl Fault {
+    /// The line that tells it.
+    fn line(self) -> &'static [u8] {
+        match self {
+            Fault::Usage => b"usage\n",
+            Fault::Platform => b"platform fault\n",
+            Fault::Memory => b"memory\n",
+            Fault::Secret => b"secret\n",
+        }
+    }
+}
 
 fn main(rt: HostRuntime) -> ExitCode {
     let mut sink = StdSink::new(rt.stdout());
@@ -41,7 +59,8 @@ fn main(rt: HostRuntime) -> ExitCode {
 
 // Opens what the words name, in their order, and runs the command over it.
 fn served<K: Sink>(rt: &HostRuntime, sink: &mut K) -> Result<u8, Fault> {
-    let given = given::words(rt)?;
+    take_standard_descriptors(rt).map_err(|_| Fault::Platform)?;
+    let given = words(rt)?;
     let words: Vec<&str> = given
         .iter()
         .map(|word| word.as_str())
@@ -53,14 +72,35 @@ fn served<K: Sink>(rt: &HostRuntime, sink: &mut K) -> Result<u8, Fault> {
     if command.is_empty() {
         return Err(Fault::Usage);
     }
-    let secret = given::secret_in(rt, secret)?;
-    let device = given::open_or_make(rt, device)?;
-    let anchor = given::open_or_make(rt, anchor)?;
+    let secret = secret_in(rt, secret).map_err(|_| Fault::Secret)?;
+    let files = HeldFiles::open(rt, device, anchor).map_err(|_| Fault::Platform)?;
+    let status = ran(rt, sink, &files, command, &secret);
+    files.let_go(rt);
+    status
+}
+
+// The words after the program's name. One that isn't UTF-8 is no word of any form.
+fn words(rt: &HostRuntime) -> Result<Vec<String>, Fault> {
+    let given = env::args(rt).map_err(|error| match error.kind() {
+        ErrorKind::InvalidData => Fault::Usage,
+        _ => Fault::Memory,
+    })?;
+    given.skip(1).collect(rt.alloc()).map_err(|_| Fault::Memory)
+}
+
+// Runs the command, and lets the platform go.
+fn ran<K: Sink>(
+    rt: &HostRuntime,
+    sink: &mut K,
+    files: &HeldFiles<'_>,
+    command: &[&str],
+    secret: &[u8; 32],
+) -> Result<u8, Fault> {
     let reader = BufReader::with_capacity(rt.alloc(), INPUT_BUFFER, rt.stdin()).map_err(
         |_| Fault::Memory,
     )?;
     let mut source = StdSource::new(reader);
-    let platform = FilePlatform::new(device, anchor);
+    let platform = files.platform().map_err(|_| Fault::Platform)?;
     let archives = Vec::new(rt.alloc());
     let ended = run(
         rt.alloc(),
@@ -68,7 +108,7 @@ fn served<K: Sink>(rt: &HostRuntime, sink: &mut K) -> Result<u8, Fault> {
         &mut source,
         sink,
         platform,
-        &secret,
+        secret,
         archives,
     );
     Ok(ended.status.code())

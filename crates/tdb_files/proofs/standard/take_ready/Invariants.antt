@@ -1,5 +1,5 @@
 use Rattle.std.proofs.Common.{◌≡◌}
-use Rattle.tdb.proofs.standard.take_ready.Given as goal
+use Rattle.tdb_files.proofs.standard.take_ready.Given as goal
 
 -- a take that was interrupted has left the bytes
 abbrev pub invariant-loop : goal.invariant-loop

@@ -1,6 +1,7 @@
 // Standard input and output, or any reader and writer of std, as a source and a sink.
 ghost use Rattle.std.specs.Prelude.{◌≡◌, ◌≤◌, [], false, length, drop, IfOk, OnErr};
 
+use crate::counts::Counts;
 use std::io;
 use std::io::{BufRead, ErrorKind, Write};
 use tdb_stream::{Failed, Sink, Source};
@@ -9,27 +10,25 @@ use tdb_stream::{Failed, Sink, Source};
 #[derive(Drop)]
 pub struct StdSource<R: BufRead + Drop> {
     reader: R,
-    faults: u64,
+    counts: Counts,
 }
 
 impl<R: BufRead + Drop> StdSource<R> {
     /// The source that gives what the reader gives. The reader's buffer decides how much one system call takes.
     pub fn new(reader: R) -> StdSource<R> {
-        StdSource { reader, faults: 0 }
+        StdSource {
+            reader,
+            counts: Counts::new(),
+        }
     }
 }
 
 impl<R: BufRead + Drop> Source for StdSource<R> {
-    ghost content = { λ s. record { tells = false; rest = []; faults = s.faults } };
+    ghost content = { λ s. record { tells = false; rest = []; faults = s.counts.faults } };
 
     fn take(&mut self, into: &mut [u8]) -> Result<usize, Failed> {
-        match take_ready(&mut self.reader, into) {
-            Ok(count) => Ok(count),
-            Err(_) => {
-                self.faults = self.faults.saturating_add(1);
-                Err(Failed)
-            }
-        }
+        let outcome = take_ready(&mut self.reader, into);
+        self.counts.counted(outcome)
     }
 }
 
@@ -63,25 +62,25 @@ fn take_once<R: BufRead>(reader: &mut R, into: &mut [u8]) -> io::Result<usize>
 #[derive(Drop)]
 pub struct StdSink<W: Write + Drop> {
     writer: W,
-    faults: u64,
+    counts: Counts,
 }
 
 impl<W: Write + Drop> StdSink<W> {
     /// The sink that writes each piece whole, and flushes it.
     pub fn new(writer: W) -> StdSink<W> {
-        StdSink { writer, faults: 0 }
+        StdSink {
+            writer,
+            counts: Counts::new(),
+        }
     }
 }
 
 impl<W: Write + Drop> Sink for StdSink<W> {
-    ghost content = { λ s. record { tells = false; held = []; faults = s.faults } };
+    ghost content = { λ s. record { tells = false; held = []; faults = s.counts.faults } };
 
     fn put(&mut self, piece: &[u8]) -> Result<(), Failed> {
-        if write_through(&mut self.writer, piece).is_err() {
-            self.faults = self.faults.saturating_add(1);
-            return Err(Failed);
-        }
-        Ok(())
+        let outcome = write_through(&mut self.writer, piece);
+        self.counts.counted(outcome)
     }
 }
 

@@ -1,10 +1,10 @@
 // A device file and an anchor file as a platform. This is the trusted edge: no clause says what a real file does.
-ghost use Rattle.std.specs.Prelude.{◌≡◌, ◌≤◌, ◌++◌, ◌↔◌, [], false, length, take, drop, IfOk, IsErr};
+ghost use Rattle.std.specs.Prelude.{◌≡◌, ◌≤◌, ◌++◌, [], false, length, take, drop, IfOk};
 ghost use Rattle.std.specs.Int.{w64, to_be_bytes, from_be_bytes};
 ghost use Rattle.std.proofs.lemmas.Bool.{false≢true};
-ghost use Rattle.tdb_base.specs.Rose.{Rose};
 ghost use Rattle.tdb_base.specs.Trace.{no_trace};
 
+use crate::counts::Counts;
 use std::fs::File;
 use std::io;
 use std::io::{ErrorKind, Seek, SeekFrom};
@@ -23,8 +23,7 @@ const ANCHOR_LENGTH: usize = 40;
 pub struct FilePlatform {
     device: File,
     anchor: File,
-    faults: u64,
-    clock: u64,
+    counts: Counts,
 }
 
 impl FilePlatform {
@@ -33,33 +32,13 @@ impl FilePlatform {
         FilePlatform {
             device,
             anchor,
-            faults: 0,
-            clock: 0,
-        }
-    }
-
-    // Counts the call, and an error of the system as a fault.
-    fn counted<T: Drop>(&mut self, outcome: io::Result<T>) -> Result<T, Failed>
-        ensures value { IfOk result (λ value. outcome ≡ Ok value) }
-        ensures error { IsErr result ↔ IsErr outcome }
-        ensures ticks { Rose self.old.clock self.new.clock }
-        ensures later { self.old.clock ≤ self.new.clock }
-        ensures no_fewer { self.old.faults ≤ self.new.faults }
-        ensures cause { IsErr result → Rose self.old.faults self.new.faults }
-    {
-        self.clock = self.clock.saturating_add(1);
-        match outcome {
-            Ok(value) => Ok(value),
-            Err(_) => {
-                self.faults = self.faults.saturating_add(1);
-                Err(Failed)
-            }
+            counts: Counts::new(),
         }
     }
 }
 
 impl Platform for FilePlatform {
-    ghost outside = { λ p. record { tells = false; honest = false; trace = no_trace; image = []; anchor = (0, []); faults = p.faults; clock = p.clock } };
+    ghost outside = { λ p. record { tells = false; honest = false; trace = no_trace; image = []; anchor = (0, []); faults = p.counts.faults; clock = p.counts.clock } };
 
     // A stop may leave anything.
     ghost crash_states = { λ _ _ _ _. Unit {0} };
@@ -72,27 +51,28 @@ impl Platform for FilePlatform {
 
     fn read(&mut self, at: u64, into: &mut [u8]) -> Result<usize, Failed> {
         let outcome = read_piece(&mut self.device, at, into);
-        self.counted(outcome)
+        self.counts.counted(outcome)
     }
 
     fn write(&mut self, at: u64, piece: &[u8]) -> Result<(), Failed> {
         let outcome = self.device.write_all_at(piece, at);
-        self.counted(outcome)
+        self.counts.counted(outcome)
     }
 
     fn sync(&mut self) -> Result<(), Failed> {
+        // No test can see that this makes anything sure.
         let outcome = self.device.sync_data();
-        self.counted(outcome)
+        self.counts.counted(outcome)
     }
 
     fn anchor(&mut self) -> Result<(u64, [u8; 32]), Failed> {
         let outcome = read_anchor(&self.anchor);
-        self.counted(outcome)
+        self.counts.counted(outcome)
     }
 
     fn advance(&mut self, count: u64, mark: &[u8; 32]) -> Result<(), Failed> {
         let outcome = write_anchor(&self.anchor, count, mark);
-        self.counted(outcome)
+        self.counts.counted(outcome)
     }
 }
 
@@ -109,6 +89,7 @@ fn read_piece(device: &mut File, at: u64, into: &mut [u8]) -> io::Result<usize>
 }
 
 fn read_anchor(file: &File) -> io::Result<(u64, [u8; 32])> {
+    // What was written is made sure before it is believed. No test can see a sync: it is owed to the power alone.
     file.sync_data()?;
     let length = file.metadata()?.len();
     if length == 0 {
@@ -123,7 +104,9 @@ fn read_anchor(file: &File) -> io::Result<(u64, [u8; 32])> {
 }
 
 fn write_anchor(file: &File, count: u64, mark: &[u8; 32]) -> io::Result<()> {
+    // The count and the mark go in one write: a stop between two would leave a pair that never was.
     file.write_all_at(&anchor_bytes(count, mark), 0)?;
+    // Without this sync an advance that succeeded could be lost. No test can see it.
     file.sync_data()
 }
 
