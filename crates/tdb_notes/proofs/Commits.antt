@@ -1,11 +1,13 @@
 -- A commit of the notes of a transaction.
 use Rattle.std.proofs.Common.{◌≡◌, ◌≢◌, ◌⊎◌, ◌<◌, ◌≤◌, inl, inr, ⊎_elim, ℕ, List, [], ◌∷◌, Option, Some, None, length, false, refl, sym}
 use Rattle.std.proofs.Common.{◌∙◌, ap, subst, arith}
-use Rattle.std.proofs.lemmas.Bool.{false≢true}
-use Rattle.std.specs.Prelude.{Err, IfErr, IfOk, Ok, OnOk, Result}
+use Rattle.std.proofs.lemmas.Bool.{false≢true, lt-ltb}
+use Rattle.std.specs.Prelude.{Err, IfErr, IfOk, Ok, OnOk, Result, if◌then◌else◌}
 use Rattle.tdb_base.specs.declared.names.TxId.{TxId}
+use Rattle.tdb_base.specs.declared.piece.NoRoom.{NoRoom}
+use Rattle.tdb_base.specs.declared.suite.Suite.TheVariants.{Plain}
 use Rattle.tdb_model.specs.Apply.{apply_all}
-use Rattle.tdb_model.specs.Check.{check_commit}
+use Rattle.tdb_model.specs.Check.{check, check_commit}
 use Rattle.tdb_model.specs.HasCommitted.{HasCommitted}
 use Rattle.tdb_model.specs.IsLawful.{IsLawful}
 use Rattle.tdb_model.specs.Meanings.{Meanings}
@@ -13,7 +15,9 @@ use Rattle.tdb_model.specs.State.{State}
 use Rattle.tdb_model.specs.declared.change.Change.{Change}
 use Rattle.tdb_model.specs.declared.error.CommitError.{CommitError}
 use Rattle.tdb_model.specs.declared.error.CommitError.TheVariants as errors
-use Rattle.tdb_model.proofs.RefusalLemmas.{of_check}
+use Rattle.tdb_model.specs.InMemory.{InMemory}
+use Rattle.tdb_model.specs.Limits.{change_limit}
+use Rattle.tdb_model.proofs.RefusalLemmas.{refused_in_memory}
 use Rattle.tdb_script.specs.LineSpelling.{commit}
 use Rattle.tdb_script.specs.declared.reply.Reply.{Reply}
 use Rattle.tdb_script.specs.declared.reply.Reply.TheVariants.{Committed}
@@ -28,6 +32,31 @@ use Rattle.tdb_notes.specs.declared.transaction.Transaction.{Transaction}
 use Rattle.tdb_notes.specs.declared.transaction.NewNote.{NewNote}
 use Rattle.tdb_notes.proofs.Lines.{pure_line, still_line, still_stop}
 use Rattle.tdb_notes.proofs.Transactions.{answered_in, numbered_some, state_transaction}
+
+-- What the check of changes never answers, as a store in memory shows that has this state.
+module _ (changes : List Change) (s : State) where
+  in_memory : InMemory
+  in_memory = record { suite = Plain; count = 0; state = s }
+
+  no_ring : check_commit s changes ≡ Some errors.RingFull → ⊥
+  unfolding in_memory
+  no_ring is = absurd (cc (refused_in_memory changes in_memory errors.RingFull {T = Unit {0}} (sym is)).cause.0)
+
+  no_end : check_commit s changes ≡ Some errors.CounterEnd → ⊥
+  unfolding in_memory
+  no_end is =
+      let limit = (refused_in_memory changes in_memory errors.CounterEnd {T = Unit {0}} (sym is)).cause.1 in
+      absurd (omega (arith, limit))
+
+  no_want_of_room : (room : NoRoom) → check_commit s changes ≡ Some (errors.NoRoom room) → ⊥
+  unfolding in_memory
+  no_want_of_room room is = absurd (cc (refused_in_memory changes in_memory (errors.NoRoom room) {T = Unit {0}} (sym is)).cause.0)
+
+  too_many : (number : ℕ) → number ≡ length changes → change_limit < length changes
+      → check_commit s changes ≡ Some (errors.TooManyChanges number)
+  too_many number is many =
+      ap (λ (b : _). if b then Some (errors.TooManyChanges (length changes)) else check s changes) (lt-ltb change_limit (length changes) many)
+      ∙ ap (λ (n : ℕ). Some (errors.TooManyChanges n)) (sym is)
 
 module _ {C T : Type 0} (m : Meanings C) (changes : List Change) (old new : C) (going : m.is_stopped old ≡ false) where
   -- a refusal for room comes where the state allows the changes
@@ -44,7 +73,7 @@ module _ {C T : Type 0} (m : Meanings C) (changes : List Change) (old new : C) (
   pub refused_by : (e : CommitError) → HasCommitted m changes old new {T = T} (Err e) → e ≢ errors.Memory → e ≢ errors.Fault → m.told new
       → (s : State) → m.state old s → IsRefusedBy m new s changes e
   refused_by errors.Stopped h memory fault told s at = absurd (false≢true (sym going ∙ h.cause))
-  refused_by (errors.TooManyChanges number) h memory fault told s at = inl (h.cause told s at)
+  refused_by (errors.TooManyChanges number) h memory fault told s at = inl (too_many changes s number h.cause.0 h.cause.1)
   refused_by errors.PartitionNumber h memory fault told s at = inl (h.cause told s at)
   refused_by (errors.NoPartition part) h memory fault told s at = inl (h.cause told s at)
   refused_by (errors.PartitionExists part) h memory fault told s at = inl (h.cause told s at)
@@ -53,17 +82,17 @@ module _ {C T : Type 0} (m : Meanings C) (changes : List Change) (old new : C) (
   refused_by errors.RankTooLarge h memory fault told s at = inl (h.cause told s at)
   refused_by errors.ChunkTooLong h memory fault told s at = inl (h.cause told s at)
   refused_by errors.RingFull h memory fault told s at = inr (
-    allowed_by errors.RingFull h (λ s is. of_check s changes errors.RingFull is)
+    allowed_by errors.RingFull h (λ s is. no_ring changes s is)
         memory fault told s at (check_commit s changes) refl,
     h.cause,
   )
   refused_by errors.CounterEnd h memory fault told s at = inr (
-    allowed_by errors.CounterEnd h (λ s is. of_check s changes errors.CounterEnd is) memory fault told s at (check_commit s changes)
+    allowed_by errors.CounterEnd h (λ s is. no_end changes s is) memory fault told s at (check_commit s changes)
         refl,
     h.cause.0,
   )
   refused_by (errors.NoRoom room) h memory fault told s at = inr (
-    allowed_by (errors.NoRoom room) h (λ s is. of_check s changes (errors.NoRoom room) is) memory fault told s at
+    allowed_by (errors.NoRoom room) h (λ s is. no_want_of_room changes s room is) memory fault told s at
         (check_commit s changes) refl,
     h.cause,
   )
