@@ -57,7 +57,7 @@ fn main(rt: HostRuntime) -> ExitCode {
     ExitCode::from(status)
 }
 
-// Opens what the words name, in their order, and runs the command over it.
+// Reads the secret, opens the device and then the anchor, and runs the command over them.
 fn served<K: Sink>(rt: &HostRuntime, sink: &mut K) -> Result<u8, Fault> {
     take_standard_descriptors(rt).map_err(|_| Fault::Platform)?;
     let given = words(rt)?;
