@@ -38,7 +38,15 @@ impl FilePlatform {
 }
 
 impl Platform for FilePlatform {
-    ghost outside = { λ p. record { tells = false; honest = false; trace = no_trace; image = []; anchor = (0, []); faults = p.counts.faults; clock = p.counts.clock } };
+    ghost outside = { λ p. record {
+      tells = false;
+      honest = false;
+      trace = no_trace;
+      image = [];
+      anchor = (0, []);
+      faults = p.counts.faults;
+      clock = p.counts.clock;
+    } };
 
     // A stop may leave anything.
     ghost crash_states = { λ _ _ _ _. Unit {0} };
