@@ -13,8 +13,6 @@ mod memory;
 mod plan;
 mod platform;
 mod replay;
-#[cfg(test)]
-mod tests;
 
 pub use crash::{AnchorLeft, Crash, ImageLeft};
 pub use hostile::{Answer, HostilePlatform};

@@ -13,8 +13,6 @@ mod memory_sink;
 mod memory_source;
 mod sink;
 mod source;
-#[cfg(test)]
-mod tests;
 
 pub use archive::Archive;
 pub use memory_archive::MemoryArchive;

@@ -1,8 +1,8 @@
 ghost use Rattle.std.specs.Prelude.{true};
 
-use crate::{Archive, Failed, MemoryArchive, MemorySink, MemorySource, Sink, Source};
 use std::process::Abort;
 use std::test::Fail;
+use tdb_stream::{Archive, Failed, MemoryArchive, MemorySink, MemorySource, Sink, Source};
 
 // A sink that has room for so many bytes. A put past its end adds what fits, and fails.
 #[derive(Drop)]

@@ -1,7 +1,9 @@
 // What no clause says: that calls succeed with ample memory, and which calls a plan lets fail.
-use crate::{AnchorLeft, Answer, Crash, HostilePlatform, ImageLeft, MemoryPlatform, Platform};
 use std::alloc::{AllocError, Global};
 use std::test::Fail;
+use tdb_platform::{
+    AnchorLeft, Answer, Crash, HostilePlatform, ImageLeft, MemoryPlatform, Platform,
+};
 
 #[test]
 fn each_call_answers_with_ample_memory(rt: HostRuntime) -> Result<(), Fail> {
