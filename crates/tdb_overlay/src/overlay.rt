@@ -5,7 +5,7 @@ ghost use Rattle.std.specs.Option.{option_map};
 ghost use Rattle.tdb_list.specs.ChangeList.{IsList};
 ghost use Rattle.tdb_list.specs.Entry.{IsEntry};
 ghost use Rattle.tdb_overlay.specs.Covering.{no_covers, suite_numbered, cover_written, cover_freed, cover_copied, cover_made, with_cover, noted, noted_all};
-ghost use Rattle.tdb_overlay.specs.Lookup.{leader_of, seen_in, seen_at};
+ghost use Rattle.tdb_overlay.specs.Lookup.{info_told, infos_told, leader_of, seen_in, seen_at};
 ghost use Rattle.tdb_overlay.specs.Memory.{covered_of};
 ghost use Rattle.tdb_overlay.specs.Reserving.{IsReserved};
 
@@ -15,6 +15,7 @@ use std::marker::Model;
 use std::mem;
 use tdb_base::{PartId, Piece, Rank, Suite};
 use tdb_list::Entry;
+use tdb_model::PartInfo;
 
 // The kinds of the changes.
 const WRITE: u32 = 1;
@@ -115,6 +116,21 @@ impl Model for Partitions {
     ghost coded = { coded_covers };
 
     ghost view = { λ p. covers_in p.by_number };
+}
+
+impl Leader {
+    /// What is told of a partition under its number.
+    fn info(&self, part: PartId) -> PartInfo
+        ensures { result ≡ info_told part self.now }
+    {
+        PartInfo {
+            part,
+            suite: self.suite,
+            parent: PartId(self.parent),
+            born: self.born,
+            next: self.next,
+        }
+    }
 }
 
 // The suite with a number.
@@ -257,6 +273,23 @@ impl Overlay {
         self.current.leader(part)
     }
 
+    /// What is told of a partition to those who ask, or `None` where it isn't there. It takes no memory.
+    pub fn info(&self, part: PartId) -> Option<PartInfo>
+        ensures { result ≡ option_map (λ p. info_told part (leader_of p)) (map.get self.now part.0) }
+    {
+        match self.current.leader(part) {
+            Some(leader) => Some(leader.info(part)),
+            None => None,
+        }
+    }
+
+    /// The same of each partition, by number.
+    pub fn infos(&self, alloc: Global) -> Result<Vec<PartInfo>, AllocError>
+        ensures { IfOk result (λ infos. infos.items ≡ infos_told self.now) }
+    {
+        self.current.infos(alloc)
+    }
+
     // The partitions a second time: the spare ones, brought up to date, or a copy where there are none.
     fn second(&mut self, alloc: Global) -> Result<Partitions, AllocError>
         ensures stays { self.new ≡ self.old }
@@ -324,6 +357,16 @@ impl Partitions {
             Some(partition) => Some(partition.leader),
             None => None,
         }
+    }
+
+    fn infos(&self, alloc: Global) -> Result<Vec<PartInfo>, AllocError>
+        ensures { IfOk result (λ infos. infos.items ≡ infos_told self.now) }
+    {
+        let mut infos = Vec::new(alloc);
+        for (part, partition) in self.by_number.iter() {
+            infos.push(partition.leader.info(PartId(*part)))?;
+        }
+        Ok(infos)
     }
 
     fn note_entry(&mut self, alloc: Global, count: u64, entry: &Entry) -> Result<(), AllocError>
