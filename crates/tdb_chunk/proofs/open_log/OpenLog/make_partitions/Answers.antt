@@ -10,7 +10,7 @@ use Rattle.tdb_chunk.specs.Preparing.{IsPrepared}
 use Rattle.tdb_chunk.specs.Writing.{IsWritable, make_entry}
 use Rattle.tdb_chunk.proofs.Calling.{refusal_is_no_fault, refused_call}
 use Rattle.tdb_chunk.proofs.Writing.{makes_check, makes_noted, makes_prepared, on_ok_then}
-use Rattle.tdb_chunk.proofs.store.Store.make_partitions.Goals as goal
+use Rattle.tdb_chunk.proofs.open_log.OpenLog.make_partitions.Goals as goal
 
 pub returns-in-Ok-clause-commit : goal.returns-in-Ok-clause-commit
 returns-in-Ok-clause-commit g c =
@@ -41,4 +41,4 @@ returns-in-Err-clause-commit g c =
     let changes = opening_changes Plain in
     refused_call g.P.Platform.outside g.P.Platform.crash_states g.met.P.Platform.counts changes was was c.args.platform.now c.in-Err.refusal c.requires.settled (refusal_is_no_fault c.in-Err.refusal c.in-Err.ensures.refusal) (λ refusal. refl)
     (λ last known refusal. c.in-Err.ensures.refused (store_of was) last changes refl (sym known.count) (sym known.base) (makes_check o was c.requires.neither last known))
-    (refl, refl, refl)
+    (refl, refl, refl, refl)

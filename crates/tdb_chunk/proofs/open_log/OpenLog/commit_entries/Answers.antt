@@ -11,7 +11,7 @@ use Rattle.tdb_chunk.specs.Known.{store_of}
 use Rattle.tdb_chunk.specs.declared.batch.LayError.{LayError}
 use Rattle.tdb_chunk.proofs.Calling.{PutCommit, done_call, fault_call, refused_call, refused_is_no_fault, if_no_room}
 use Rattle.tdb_chunk.proofs.Committing.{list_refused}
-use Rattle.tdb_chunk.proofs.store.Store.commit_entries.Goals as goal
+use Rattle.tdb_chunk.proofs.open_log.OpenLog.commit_entries.Goals as goal
 
 pub returns-in-Err-clause-commit : goal.returns-in-Err-clause-commit
 returns-in-Err-clause-commit g c = λ changes prepared.
@@ -24,12 +24,12 @@ returns-in-Err-clause-commit g c = λ changes prepared.
     (λ r is.
     list_refused o was c.args.entries.now (placed c.args.batch.pieces.items) c.args.batch.segments changes prepared c.requires.list c.requires.not_full c.requires.counts_on last known r
     (c.in-Err.ensures.refused r (ap (λ (e : LayError). Err e) is))))
-    (refl, refl, refl)
+    (refl, refl, refl, refl)
 
 pub returns-in_default-clause-commit : goal.returns-in_default-clause-commit
 returns-in_default-clause-commit g c = λ changes prepared.
     refused_call g.P.Platform.outside g.P.Platform.crash_states g.met.P.Platform.counts changes c.args.self.now _ c.args.platform.now refusals.Memory c.requires.settled
-    (λ is. cc) (λ refusal. absurd (false≢true refusal)) (λ last known refusal. absurd (false≢true refusal)) (refl, refl, refl)
+    (λ is. cc) (λ refusal. absurd (false≢true refusal)) (λ last known refusal. absurd (false≢true refusal)) (refl, refl, refl, refl)
 
 pub put_commit-requires-clause-in_segments : goal.put_commit-requires-clause-in_segments
 put_commit-requires-clause-in_segments g c = subst (λ (l : List Laid). All FitsOneSegment (placed l)) (sym c.deref.ensures.value) c.in-Ok.ensures.next.laid.in_segments
@@ -61,7 +61,7 @@ returns-in_default-put_commit-clause-commit g c = λ changes prepared.
     subst (λ (l : List Laid). PutCommit outside crash_states was.keys was.log.head commit (placed l) old new c.put_commit.result) c.deref.ensures.value put in
     fault_call outside crash_states g.met.P.Platform.counts was c.args.entries.now (placed c.args.batch.pieces.items) c.args.batch.segments changes old new prepared c.requires.list c.requires.values c.requires.not_full c.requires.counts_on
     commit ps batch.segments c.in-Ok.ensures.next c.requires.at_head c.requires.settled _ c.in_default-put_commit.field-0
-    (subst (λ (r : Result Head Failed). PutCommit outside crash_states was.keys was.log.head commit ps old new r) c.in_default-put_commit.is laid) (refl, refl, refl)
+    (subst (λ (r : Result Head Failed). PutCommit outside crash_states was.keys was.log.head commit ps old new r) c.in_default-put_commit.is laid) (refl, refl, refl, refl)
 
 pub returns-clause-commit : goal.returns-clause-commit
 returns-clause-commit g c = λ changes prepared.
@@ -87,4 +87,4 @@ returns-clause-commit g c = λ changes prepared.
     subst (λ (l : List Laid). PutCommit outside crash_states was.keys was.log.head commit (placed l) old new c.put_commit.result) c.deref.ensures.value put in
     done_call outside crash_states g.met.P.Platform.counts was c.args.entries.now (placed c.args.batch.pieces.items) c.args.batch.segments changes old new prepared c.requires.list c.requires.values c.requires.not_full c.requires.counts_on
     commit ps batch.segments c.in-Ok.ensures.next c.requires.at_head c.requires.settled _ tt c.in-Ok-put_commit.head
-    (subst (λ (r : Result Head Failed). PutCommit outside crash_states was.keys was.log.head commit ps old new r) c.in-Ok-put_commit.is laid) refl refl refl c.in-Ok-note.ensures.ok
+    (subst (λ (r : Result Head Failed). PutCommit outside crash_states was.keys was.log.head commit ps old new r) c.in-Ok-put_commit.is laid) refl refl refl refl c.in-Ok-note.ensures.ok

@@ -13,7 +13,7 @@ use Rattle.tdb_chunk.specs.Writing.{IsWritable, write_of, writes_of}
 use Rattle.tdb_chunk.specs.declared.batch.LayError.{LayError}
 use Rattle.tdb_chunk.proofs.Calling.{if_no_room, refusal_is_no_fault, refused_call, refused_is_no_fault}
 use Rattle.tdb_chunk.proofs.Writing.{on_ok_then, writes_check, writes_list, writes_noted, writes_prepared, writes_refused}
-use Rattle.tdb_chunk.proofs.store.Store.commit_writes.Goals as goal
+use Rattle.tdb_chunk.proofs.open_log.OpenLog.commit_writes.Goals as goal
 
 pub commit_entries-requires-clause-list : goal.commit_entries-requires-clause-list
 commit_entries-requires-clause-list g c =
@@ -63,7 +63,7 @@ returns-in-Err-lay_writes-clause-commit g c =
     if_no_room (store_of was) last changes c.in-Err-lay_writes.error c.refused.result c.refused.ensures.answer refusal
     (λ r is.
     writes_refused o was c.args.part c.args.chunks.now w c.requires.limits c.requires.some r ok.1 ok.2 ok.0 (c.in-Err-lay_writes.ensures.refused r (ap (λ (e : LayError). Err e) is)) last known))
-    (refl, refl, refl)
+    (refl, refl, refl, refl)
 
 pub returns-in-Err-clause-commit : goal.returns-in-Err-clause-commit
 returns-in-Err-clause-commit g c =
@@ -74,4 +74,4 @@ returns-in-Err-clause-commit g c =
     (λ last known refusal.
     c.in-Err.ensures.refused (store_of was) last changes (length-map c.args.chunks.now (write_of c.args.part)) (sym known.count) (sym known.base)
     (writes_check o was c.args.part c.args.chunks.now c.requires.writable c.requires.limits c.requires.some last known))
-    (refl, refl, refl)
+    (refl, refl, refl, refl)
