@@ -1,3 +1,4 @@
+pub mod Attaching
 pub mod Calling
 pub mod Committing
 pub mod Growing
@@ -8,4 +9,5 @@ pub mod Sealing
 pub mod Shown
 pub mod Standing
 pub mod Starting
+pub mod StoreReads
 pub mod Writing

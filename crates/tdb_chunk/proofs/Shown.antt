@@ -89,7 +89,7 @@ module _ (finds : Finds) (secret : List ℕ) (rank : ℕ) where
         opened = subst (λ (n : ℕ). IsSealedRecord (partition_key secret c.home n) (record { kind = 1; suite = c.suite; home = c.home; rank = rank }) bytes is.sealed) (sym are.birth) by_home;
       }
 
-  in_state : (cover : Option Covered) (found : Option Partition) (leader : Leader) (piece : Piece) → IsCoveredAt finds secret cover found → Some leader ≡ option_map leader_of cover → Here piece ≡ seen_in (option_and_then (λ (c : Covered). finmap.get c.edits rank) cover)
+  pub in_state : (cover : Option Covered) (found : Option Partition) (leader : Leader) (piece : Piece) → IsCoveredAt finds secret cover found → Some leader ≡ option_map leader_of cover → Here piece ≡ seen_in (option_and_then (λ (c : Covered). finmap.get c.edits rank) cover)
       → KnownChunk finds secret leader rank piece (option_and_then (λ (p : Partition). finmap.get p.chunks rank) found)
   in_state None found leader piece is led here = let no : ◌≡◌ {A = Option Leader} (Some leader) None = led in absurd (cc)
   in_state (Some c) None leader piece is led here = absurd is
@@ -121,7 +121,7 @@ module _ (finds : Finds) (secret : List ℕ) (rank : ℕ) where
   not_in p (Some (Some q)) chunk is isnt = absurd (isnt q refl)
 
   -- the partition is there, and has no such chunk
-  lacks : (cover : Option Covered) (found : Option Partition) (leader : Leader) → IsCoveredAt finds secret cover found → Some leader ≡ option_map leader_of cover → ((piece : Piece) → seen_in (option_and_then (λ (c : Covered). finmap.get c.edits rank) cover) ≡ Here piece → ⊥)
+  pub lacks : (cover : Option Covered) (found : Option Partition) (leader : Leader) → IsCoveredAt finds secret cover found → Some leader ≡ option_map leader_of cover → ((piece : Piece) → seen_in (option_and_then (λ (c : Covered). finmap.get c.edits rank) cover) ≡ Here piece → ⊥)
       → (found ≢ None) × (option_and_then (λ (p : Partition). finmap.get p.chunks rank) found ≡ None)
   lacks None found leader is led isnt = let no : ◌≡◌ {A = Option Leader} (Some leader) None = led in absurd (cc)
   lacks (Some c) None leader is led isnt = absurd is

@@ -1,6 +1,11 @@
 pub mod Committing
 pub mod Known
 pub mod LaidOut
+pub mod Shown
+pub mod Standing
+pub mod StoreLaws
+pub mod StoreMeans
+pub mod StoreView
 pub mod Formatting
 pub mod Names
 pub mod Preparing

@@ -1,6 +1,7 @@
 -- What a read of a chunk says.
 use Rattle.std.specs.Prelude.{◌≡◌, ℕ, List, Some, IsTrue}
 use Rattle.std.specs.FinMap.{get}
+use Rattle.sha2.specs.Sha256.{sha256}
 use Rattle.tdb_base.specs.declared.piece.Damage.{Damage}
 use Rattle.tdb_base.specs.declared.piece.Piece.{Piece}
 use Rattle.tdb_base.specs.Trace.{with_read}
@@ -46,6 +47,13 @@ pub record IsDamagedChunk (old new : Outside) (s : OpenLog) (last : StoreState) 
 -- A piece was read, once and whole, and nothing else was.
 abbrev pub HasReadWhole : Piece → Outside → Outside → Type 0
 HasReadWhole piece old new = (bytes : List ℕ) × (new.trace ≡ with_read old.trace piece.place.0 piece.length bytes)
+
+-- A piece was read, once and whole, and nothing else was. It showed its digest, and bytes that have P.
+pub record HasShown (piece : Piece) (old new : Outside) (P : List ℕ → Type 0) : Type 0 where
+  pub bytes : List ℕ
+  pub read : new.trace ≡ with_read old.trace piece.place.0 piece.length bytes
+  pub digest : sha256 bytes ≡ piece.digest.0
+  pub holds : P bytes
 
 -- A piece that the log of the anchor needs was read, once and whole, and nothing else was.
 pub record HasReadPiece (old new : Outside) (s : OpenLog) : Type 0 where

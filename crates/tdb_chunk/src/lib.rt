@@ -5,6 +5,7 @@
 //! `commit_on` has them, and that a read gives the bytes of the log's state, whatever the device shows.
 #![tactic(auto)]
 
+mod attach;
 mod batch;
 mod changes;
 mod chunk;
@@ -14,6 +15,7 @@ mod open_log;
 mod opening;
 mod reading;
 mod records;
+mod store;
 #[cfg(test)]
 mod tests;
 mod text;
@@ -21,3 +23,4 @@ mod text;
 pub use chunk::Chunk;
 pub use format::StoreError;
 pub use open_log::OpenLog;
+pub use store::{Room, Store};
