@@ -8,4 +8,5 @@ pub mod Sealing
 pub mod Shown
 pub mod Standing
 pub mod Starting
+pub mod Stepping
 pub mod Writing

@@ -16,6 +16,7 @@ use Rattle.tdb_overlay.specs.Log.{IsLog}
 use Rattle.tdb_overlay.specs.SealedOnly.{OnlySealed}
 use Rattle.tdb_overlay.specs.StoreState.{StoreState, commit_on}
 use Rattle.tdb_chunk.specs.Known.{IsAtHead, Knows, store_of}
+use Rattle.tdb_chunk.specs.Stepping.{IsCommitStep}
 use Rattle.tdb_chunk.specs.declared.store.Store as memory
 
 -- which last states of a log are known
@@ -95,3 +96,5 @@ pub record IsCommitCall {D T : Type 0} (outside : D → Outside) (crash_states :
   pub unread : IsTrue (outside old).tells → (outside new).trace.read ≡ (outside old).trace.read
   -- only sealed records and texts go to the device
   pub sealed : OnlySealed was.keys (outside old) (outside new)
+  -- where the store knows the log, it is a step of a run
+  pub steps : IsCommitStep outside crash_states changes was old new result

@@ -56,6 +56,7 @@ returns-in_default-put_commit-clause-commit g c = λ changes prepared.
       reads = c.put_commit.ensures.reads;
       told = c.put_commit.ensures.told;
       sealed = c.put_commit.ensures.sealed records;
+      steps = c.put_commit.ensures.steps records;
     } in
     let laid : PutCommit outside crash_states was.keys was.log.head commit ps old new c.put_commit.result =
     subst (λ (l : List Laid). PutCommit outside crash_states was.keys was.log.head commit (placed l) old new c.put_commit.result) c.deref.ensures.value put in
@@ -82,6 +83,7 @@ returns-clause-commit g c = λ changes prepared.
       reads = c.put_commit.ensures.reads;
       told = c.put_commit.ensures.told;
       sealed = c.put_commit.ensures.sealed records;
+      steps = c.put_commit.ensures.steps records;
     } in
     let laid : PutCommit outside crash_states was.keys was.log.head commit ps old new c.put_commit.result =
     subst (λ (l : List Laid). PutCommit outside crash_states was.keys was.log.head commit (placed l) old new c.put_commit.result) c.deref.ensures.value put in
