@@ -7,10 +7,12 @@ ghost use Rattle.tdb_list.specs.Entry.{IsEntry};
 ghost use Rattle.tdb_overlay.specs.Covering.{no_covers, suite_numbered, cover_written, cover_freed, cover_copied, cover_made, with_cover, noted, noted_all};
 ghost use Rattle.tdb_overlay.specs.Lookup.{leader_of, seen_in, seen_at};
 ghost use Rattle.tdb_overlay.specs.Memory.{covered_of};
+ghost use Rattle.tdb_overlay.specs.Reserving.{IsReserved};
 
 use std::alloc::{AllocError, Global};
 use std::collections::BTreeMap;
 use std::marker::Model;
+use std::mem;
 use tdb_base::{PartId, Piece, Rank, Suite};
 use tdb_list::Entry;
 
@@ -56,7 +58,31 @@ pub enum Seen {
 /// Contracts see the finite map of the partitions by their numbers.
 #[derive(Drop)]
 pub struct Overlay {
-    partitions: BTreeMap<u32, KeptPartition>,
+    current: Partitions,
+    spare: Option<Spare>,
+}
+
+/// What an overlay becomes once the list of a commit is taken in, with all the memory that this takes.
+#[derive(Drop)]
+pub struct Reserved {
+    next: Partitions,
+    count: u64,
+    entries: Vec<Entry>,
+}
+
+/// The partitions as they were before the last list, and that list. What a commit reserves is made of them, so that
+/// it costs as much as two lists, and not as much as all partitions.
+#[derive(Drop)]
+pub(crate) struct Spare {
+    before: Partitions,
+    count: u64,
+    entries: Vec<Entry>,
+}
+
+/// The partitions by their numbers.
+#[derive(Drop)]
+pub(crate) struct Partitions {
+    by_number: BTreeMap<u32, KeptPartition>,
 }
 
 /// What is kept of a partition.
@@ -68,13 +94,27 @@ pub(crate) struct KeptPartition {
 
 impl Model for Overlay {
     ghost use Rattle.tdb_overlay.specs.Covering.{Covers};
+    ghost use Rattle.tdb_overlay.specs.Memory.{coded_covers};
+    ghost use Rattle.tdb_overlay.specs.Reserving.{IsBehind};
+
+    ghost Value = { Covers };
+
+    ghost coded = { coded_covers };
+
+    ghost view = { λ o. o.current };
+
+    ghost invariant = { λ o. IsBehind o.current o.spare };
+}
+
+impl Model for Partitions {
+    ghost use Rattle.tdb_overlay.specs.Covering.{Covers};
     ghost use Rattle.tdb_overlay.specs.Memory.{coded_covers, covers_in};
 
     ghost Value = { Covers };
 
     ghost coded = { coded_covers };
 
-    ghost view = { λ o. covers_in o.partitions };
+    ghost view = { λ p. covers_in p.by_number };
 }
 
 // The suite with a number.
@@ -85,6 +125,17 @@ fn suite_of(number: u32) -> Suite
         0 => Suite::Plain,
         1 => Suite::Aes128,
         _ => Suite::Aes256,
+    }
+}
+
+impl Clone for KeptPartition {
+    ghost is_clone = { λ p q. covered_of q ≡ covered_of p };
+
+    fn clone(&self) -> Result<KeptPartition, AllocError> {
+        Ok(KeptPartition {
+            leader: self.leader,
+            edits: self.edits.clone()?,
+        })
     }
 }
 
@@ -139,7 +190,8 @@ impl Overlay {
         ensures { result ≡ no_covers }
     {
         Overlay {
-            partitions: BTreeMap::new(alloc),
+            current: Partitions::new(alloc),
+            spare: None,
         }
     }
 
@@ -150,27 +202,125 @@ impl Overlay {
         requires { IsList entries.now }
         ensures ok { OnOk result (self.new ≡ noted_all count self.old entries.now) }
     {
-        for entry in entries {
-            self.note_entry(alloc, count, entry)?;
-        }
-        Ok(())
+        self.spare = None;
+        self.current.note(alloc, count, entries)
+    }
+
+    /// Takes all the memory that the list of a commit with this count needs, and nothing of the list yet.
+    ///
+    /// It costs as much as the list and the one before it. The first time after a `note`, or after what was reserved
+    /// wasn't taken in, it costs as much as all partitions. Fails where memory runs out.
+    pub fn reserve(
+        &mut self,
+        alloc: Global,
+        count: u64,
+        entries: &[Entry],
+    ) -> Result<Reserved, AllocError>
+        requires { IsList entries.now }
+        ensures stays { self.new ≡ self.old }
+        ensures same { IfOk result (λ reserved. (reserved.count ≡ count) × (reserved.entries.items ≡ entries.now)) }
+        ensures ready { IfOk result (λ reserved. IsReserved self.old reserved) }
+    {
+        let mut next = self.second(alloc)?;
+        next.note(alloc, count, entries)?;
+        Ok(Reserved {
+            next,
+            count,
+            entries: Vec::from_slice(alloc, entries)?,
+        })
+    }
+
+    /// Takes in the list for which this was reserved. It takes no memory.
+    pub fn take_in(&mut self, reserved: Reserved)
+        requires { IsReserved self.old reserved }
+        ensures { self.new ≡ noted_all reserved.count self.old reserved.entries.items }
+    {
+        let before = mem::replace(&mut self.current, reserved.next);
+        self.spare = Some(Spare {
+            before,
+            count: reserved.count,
+            entries: reserved.entries,
+        });
     }
 
     /// What the lists say of a rank. It takes no memory.
     pub fn get(&self, part: PartId, rank: Rank) -> Seen
         ensures { result ≡ seen_at self.now part.0 rank.0 }
     {
-        match self.partitions.get(&part.0) {
-            Some(partition) => partition.get(rank.0),
-            None => Seen::Base,
-        }
+        self.current.get(part, rank)
     }
 
     /// What is told of a partition, or `None` where it isn't there. It takes no memory.
     pub fn leader(&self, part: PartId) -> Option<Leader>
         ensures { result ≡ option_map leader_of (map.get self.now part.0) }
     {
-        match self.partitions.get(&part.0) {
+        self.current.leader(part)
+    }
+
+    // The partitions a second time: the spare ones, brought up to date, or a copy where there are none.
+    fn second(&mut self, alloc: Global) -> Result<Partitions, AllocError>
+        ensures stays { self.new ≡ self.old }
+        ensures same { IfOk result (λ second. second ≡ self.old) }
+    {
+        match self.spare.take() {
+            Some(spare) => spare.caught_up(alloc),
+            None => self.current.copied(),
+        }
+    }
+}
+
+impl Spare {
+    // The partitions with the list taken in.
+    fn caught_up(self, alloc: Global) -> Result<Partitions, AllocError>
+        requires { IsList self.entries.items }
+        ensures { IfOk result (λ next. next ≡ noted_all self.count self.before self.entries.items) }
+    {
+        let mut next = self.before;
+        next.note(alloc, self.count, self.entries.as_slice())?;
+        Ok(next)
+    }
+}
+
+impl Partitions {
+    fn new(alloc: Global) -> Partitions
+        ensures { result ≡ no_covers }
+    {
+        Partitions {
+            by_number: BTreeMap::new(alloc),
+        }
+    }
+
+    fn copied(&self) -> Result<Partitions, AllocError>
+        ensures { IfOk result (λ copy. copy ≡ self.now) }
+    {
+        Ok(Partitions {
+            by_number: self.by_number.clone()?,
+        })
+    }
+
+    fn note(&mut self, alloc: Global, count: u64, entries: &[Entry]) -> Result<(), AllocError>
+        requires { IsList entries.now }
+        ensures ok { OnOk result (self.new ≡ noted_all count self.old entries.now) }
+    {
+        for entry in entries {
+            self.note_entry(alloc, count, entry)?;
+        }
+        Ok(())
+    }
+
+    fn get(&self, part: PartId, rank: Rank) -> Seen
+        ensures { result ≡ seen_at self.now part.0 rank.0 }
+    {
+        match self.by_number.get(&part.0) {
+            Some(partition) => partition.get(rank.0),
+            None => Seen::Base,
+        }
+    }
+
+    fn leader(&self, part: PartId) -> Option<Leader>
+        ensures { result ≡ option_map leader_of (map.get self.now part.0) }
+    {
+        match self.by_number.get(&part.0) {
             Some(partition) => Some(partition.leader),
             None => None,
         }
@@ -196,7 +346,7 @@ impl Overlay {
         requires { rank < 262144 }
         ensures { OnOk result (self.new ≡ with_cover self.old part (option_map (cover_written rank piece) (map.get self.old part))) }
     {
-        match self.partitions.get_mut(&part) {
+        match self.by_number.get_mut(&part) {
             Some(partition) => partition.write(rank, piece),
             None => Ok(()),
         }
@@ -205,7 +355,7 @@ impl Overlay {
     fn free(&mut self, part: u32, rank: u32) -> Result<(), AllocError>
         ensures { OnOk result (self.new ≡ with_cover self.old part (option_map (cover_freed rank) (map.get self.old part))) }
     {
-        match self.partitions.get_mut(&part) {
+        match self.by_number.get_mut(&part) {
             Some(partition) => partition.free(rank),
             None => Ok(()),
         }
@@ -225,24 +375,24 @@ impl Overlay {
             },
             edits: BTreeMap::new(alloc),
         };
-        self.partitions.insert(entry.part, partition)?;
+        self.by_number.insert(entry.part, partition)?;
         Ok(())
     }
 
     fn copy(&mut self, count: u64, from: u32, to: u32) -> Result<(), AllocError>
         ensures { OnOk result (self.new ≡ with_cover self.old to (option_map (cover_copied count from) (map.get self.old from))) }
     {
-        let Some(source) = self.partitions.get(&from) else {
+        let Some(source) = self.by_number.get(&from) else {
             return Ok(());
         };
         let copy = source.copy(from, count)?;
-        self.partitions.insert(to, copy)?;
+        self.by_number.insert(to, copy)?;
         Ok(())
     }
 
     fn drop_partition(&mut self, part: u32)
         ensures { self.new ≡ map.remove self.old part }
     {
-        let _dropped = self.partitions.remove(&part);
+        let _dropped = self.by_number.remove(&part);
     }
 }

@@ -1,5 +1,5 @@
 use Rattle.tdb_overlay.proofs.Coverings.{noted_all-next}
-use Rattle.tdb_overlay.proofs.overlay.Overlay.note.Goals as goal
+use Rattle.tdb_overlay.proofs.overlay.Partitions.note.Goals as goal
 
 pub loop-entry-preserved : goal.loop-entry-preserved
 loop-entry-preserved c =

@@ -5,12 +5,12 @@ use Rattle.std.specs.Option.{option_copied_mut}
 use Rattle.std.specs.Ordering.{nat_cmp}
 use Rattle.tdb_overlay.specs.Covering.{cover_written}
 use Rattle.tdb_overlay.proofs.KeptCovers.{changed, absent}
-use Rattle.tdb_overlay.proofs.overlay.Overlay.write.Goals as goal
-use Rattle.tdb_overlay.proofs.overlay.Overlay.write.Goals.{in-Some, in-None}
+use Rattle.tdb_overlay.proofs.overlay.Partitions.write.Goals as goal
+use Rattle.tdb_overlay.proofs.overlay.Partitions.write.Goals.{in-Some, in-None}
 
 pub returns : goal.returns
 returns c =
-    let m = c.self.inside.partitions in
+    let m = c.self.inside.by_number in
     elim c.match-get_mut.branch [
       | in-Some w ↦
           let there : tree.get nat_cmp m c.args.part ≡ Some w.in-Some.partition.now = sym c.get_mut.ensures.value ∙ ap option_copied_mut w.in-Some.is in
