@@ -31,7 +31,7 @@ use Rattle.tdb_overlay.specs.Log.{IsLog}
 use Rattle.tdb_overlay.specs.SealedOnly.{OnlySealed}
 use Rattle.tdb_overlay.specs.StoreState.{StoreState, commit_on, committed}
 use Rattle.tdb_mark.specs.CommitChain.{commit_chain}
-use Rattle.tdb_chunk.specs.Committing.{AddedFrom, IsCommitCall, IsKept, IsLonger, is_refusal}
+use Rattle.tdb_chunk.specs.Committing.{AddedFrom, IsCommitCall, IsLonger, is_refusal}
 use Rattle.tdb_chunk.specs.Known.{IsAtHead, Knows, store_of}
 use Rattle.tdb_chunk.specs.LaidOut.{IsFreshIn}
 use Rattle.tdb_chunk.specs.Preparing.{IsNext, IsPrepared, refused_by}
@@ -63,9 +63,9 @@ ok_is_no_err x is = cc
 
 -- a commit that was refused, or wanted memory, before anything was written
 pub refused_call : {D : Type 0} (outside : D → Outside) (crash_states : D → CrashStates) (counts : Counts outside crash_states) (changes : List Change) (was now_is : memory.Store) (p : D) (e : CommitError) → IsSettled outside crash_states p → e ≢ Fault
-    → (IsTrue (is_refusal e) → now_is ≡ was) → ((last : StoreState) → Knows (outside p) was last → IsTrue (is_refusal e) → commit_on (store_of was) last changes ≡ Err e)
-    → IsKept was now_is → IsCommitCall {T = Unit {0}} outside crash_states changes was now_is p p (Err e)
-refused_call {D} outside crash_states counts changes was now_is p e settled isnt same refuses kept = record {
+    → now_is ≡ was → ((last : StoreState) → Knows (outside p) was last → IsTrue (is_refusal e) → commit_on (store_of was) last changes ≡ Err e)
+    → IsCommitCall {T = Unit {0}} outside crash_states changes was now_is p p (Err e)
+refused_call {D} outside crash_states counts changes was now_is p e settled isnt kept refuses = record {
   added = λ tells. none_added {T = Unit {0}} {E = CommitError} outside crash_states counts (Knows (outside p) was) (OneCommit (store_of was) changes) (store_of was) p (Err e) tells settled refl;
   knows = λ tells. tt;
   whole = λ tells unforged before from is known intact. intact;
@@ -73,7 +73,6 @@ refused_call {D} outside crash_states counts changes was now_is p e settled isnt
   allowed = λ last known. tt;
   fault_allowed = λ is. absurd (isnt (fault_of {T = Unit {0}} e is));
   kept = kept;
-  store_stays = same;
   platform_stays = λ is. refl;
   at_head = tt;
   same_store = tt;
@@ -150,7 +149,7 @@ module _ {D : Type 0} (outside : D → Outside) (crash_states : D → CrashState
       (λ sound. commit_goes_on (outside old) was entries before behind changes prepared list values not_full counts_on c ps space next
       at_head sound.tells (has sound))
 
-  pub fault_call : (now_is : memory.Store) (x : Failed) → PutCommit outside crash_states secret was.log.head c ps old new (Err x) → IsKept was now_is → IsCommitCall {T = Unit {0}} outside crash_states changes was now_is old new (Err Fault)
+  pub fault_call : (now_is : memory.Store) (x : Failed) → PutCommit outside crash_states secret was.log.head c ps old new (Err x) → now_is ≡ was → IsCommitCall {T = Unit {0}} outside crash_states changes was now_is old new (Err Fault)
   fault_call now_is x put kept = record {
     added = λ tells. added_err outside crash_states (Knows (outside old) was) (OneCommit store changes) store old new (Err x) (Err Fault) refl (added_by (Err x) put tells);
     knows = λ tells. tt;
@@ -159,7 +158,6 @@ module _ {D : Type 0} (outside : D → Outside) (crash_states : D → CrashState
     allowed = λ last known. tt;
     fault_allowed = λ is last known. (committed last changes space, allowed_on (outside old) was entries before behind changes prepared list not_full counts_on last known c ps space next values);
     kept = kept;
-    store_stays = λ refusal. absurd (false≢true refusal);
     platform_stays = λ isnt. absurd (isnt refl);
     at_head = tt;
     same_store = tt;
@@ -223,7 +221,6 @@ module _ {D : Type 0} (outside : D → Outside) (crash_states : D → CrashState
       allowed = λ last known. (committed last changes space, allowed_on (outside old) was entries before behind changes prepared list not_full counts_on last known c ps space next values);
       fault_allowed = λ is. absurd (ok_is_no_err x is);
       kept = tt;
-      store_stays = tt;
       platform_stays = tt;
       at_head = λ tells. put.advanced (subst IsTrue put.told.tells tells) ∙ sym (ap (λ (h : Head). (h.count, h.mark.0)) head_next);
       same_store = same_as;

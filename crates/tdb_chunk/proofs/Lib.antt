@@ -9,4 +9,5 @@ pub mod Shown
 pub mod Standing
 pub mod Starting
 pub mod Stepping
+pub mod Unchanged
 pub mod Writing

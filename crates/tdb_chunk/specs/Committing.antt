@@ -62,10 +62,6 @@ pub record IsLonger (old new : Outside) (was now : memory.Store) (changes : List
   pub log : IsLog new.trace.written (store_of was) new.anchor (before ++ (from.count + 1, changes) ∷ []) to
   pub knows : Knows new now to
 
--- the keys, the head and the segments are as they were
-abbrev pub IsKept : memory.Store → memory.Store → Type 0
-IsKept was now = (now.keys ≡ was.keys) × (now.log.head ≡ was.log.head) × (now.log.segments ≡ was.log.segments)
-
 -- Of a commit of changes: what it adds to the log, what the store knows afterwards, and what each refusal means.
 pub record IsCommitCall {D T : Type 0} (outside : D → Outside) (crash_states : D → CrashStates) (changes : List Change) (was now_is : memory.Store) (old new : D) (result : Result T CommitError) : Type 0 where
   -- it adds one commit of these changes to the log that the store knows
@@ -80,9 +76,8 @@ pub record IsCommitCall {D T : Type 0} (outside : D → Outside) (crash_states :
   pub refused : (last : StoreState) → Knows (outside old) was last → IfErr result (λ e. IsTrue (is_refusal e) → commit_on (store_of was) last changes ≡ Err e)
   pub allowed : (last : StoreState) → Knows (outside old) was last → OnOk result (IsAllowedOn (store_of was) last changes)
   pub fault_allowed : result ≡ Err Fault → (last : StoreState) → Knows (outside old) was last → IsAllowedOn (store_of was) last changes
-  -- what failed leaves the keys, the head and the segments; what was refused leaves all
-  pub kept : IfErr result (λ e. IsKept was now_is)
-  pub store_stays : IfErr result (λ e. IsTrue (is_refusal e) → now_is ≡ was)
+  -- what was refused or failed leaves the store in memory as it was, and the platform too unless that failed
+  pub kept : IfErr result (λ e. now_is ≡ was)
   pub platform_stays : IfErr result (λ e. e ≢ Fault → new ≡ old)
   pub at_head : OnOk result (IsAtHead (outside new) now_is)
   pub same_store : OnOk result (store_of now_is ≡ store_of was)
