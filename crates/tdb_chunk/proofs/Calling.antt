@@ -15,7 +15,7 @@ use Rattle.tdb_mark.specs.declared.commit.Commit.{Commit}
 use Rattle.tdb_mark.specs.CommitText.{commit_key_of, commit_of}
 use Rattle.sha2.specs.Sha256.{sha256}
 use Rattle.tdb_mark.specs.Unforged.{IsUnforged}
-use Rattle.tdb_base.specs.declared.suite.Suite.TheVariants.{Plain}
+use Rattle.tdb_base.specs.declared.suite.Suite.{Suite}
 use Rattle.tdb_model.specs.declared.change.Change.{Change}
 use Rattle.tdb_model.specs.declared.error.CommitError.{CommitError}
 use Rattle.tdb_model.specs.declared.error.CommitError.TheVariants.{Fault, Memory, NoRoom}
@@ -41,7 +41,7 @@ use Rattle.tdb_base.specs.declared.piece.NoRoom as room
 use Rattle.tdb_chunk.specs.declared.batch.LayError.{LayError}
 use Rattle.tdb_chunk.specs.declared.batch.LayError.TheVariants as lay
 use Rattle.tdb_chunk.specs.Text.{anchor_of, next_head, text_in_slot, text_of}
-use Rattle.tdb_chunk.specs.declared.store.Store as memory
+use Rattle.tdb_chunk.specs.declared.open_log.OpenLog.{OpenLog}
 use Rattle.tdb_chunk.proofs.Committing.{allowed_on, next_known, next_step}
 use Rattle.tdb_chunk.proofs.Growing.{Counts, Steps, added_err, added_ok, none_added, put_added}
 use Rattle.tdb_chunk.proofs.Keeping.{put_keeps}
@@ -62,7 +62,7 @@ ok_is_no_err : {T : Type 0} (x : T) → ◌≡◌ {A = Result T CommitError} (Ok
 ok_is_no_err x is = cc
 
 -- a commit that was refused, or wanted memory, before anything was written
-pub refused_call : {D : Type 0} (outside : D → Outside) (crash_states : D → CrashStates) (counts : Counts outside crash_states) (changes : List Change) (was now_is : memory.Store) (p : D) (e : CommitError) → IsSettled outside crash_states p → e ≢ Fault
+pub refused_call : {D : Type 0} (outside : D → Outside) (crash_states : D → CrashStates) (counts : Counts outside crash_states) (changes : List Change) (was now_is : OpenLog) (p : D) (e : CommitError) → IsSettled outside crash_states p → e ≢ Fault
     → now_is ≡ was → ((last : StoreState) → Knows (outside p) was last → IsTrue (is_refusal e) → commit_on (store_of was) last changes ≡ Err e)
     → IsCommitCall {T = Unit {0}} outside crash_states changes was now_is p p (Err e)
 refused_call {D} outside crash_states counts changes was now_is p e settled isnt kept refuses = record {
@@ -98,7 +98,7 @@ pub record PutCommit {D : Type 0} (outside : D → Outside) (crash_states : D �
   pub sealed : OnlySealed secret (outside old) (outside new)
   pub steps : IsPutStep outside crash_states secret c ps old new result
 
-module _ {D : Type 0} (outside : D → Outside) (crash_states : D → CrashStates) (counts : Counts outside crash_states) (was : memory.Store) (entries : List Entry) (before : List Placed) (behind : SegmentSpace) (changes : List Change) (old new : D)
+module _ {D : Type 0} (outside : D → Outside) (crash_states : D → CrashStates) (counts : Counts outside crash_states) (was : OpenLog) (entries : List Entry) (before : List Placed) (behind : SegmentSpace) (changes : List Change) (old new : D)
     (prepared : IsPrepared (outside old) was entries before behind changes) (list : IsList entries) (values : AllByRecursion IsEntryValue entries) (not_full : was.log.head.count ≢ was.log.head.base + 1000) (counts_on : was.log.head.count < 18446744073709551615)
     (c : Commit) (ps : List Placed) (space : SegmentSpace) (next : IsNext was entries before behind c ps space) (at_head : IsAtHead (outside old) was) (settled : IsSettled outside crash_states old) where
   abbrev secret : List ℕ
@@ -145,11 +145,11 @@ module _ {D : Type 0} (outside : D → Outside) (crash_states : D → CrashState
   step_by : (result : Result Head Failed) → PutCommit outside crash_states secret was.log.head c ps old new result
       → (IsSound secret (outside old) → HasKnownLog (outside old) was)
       → RanStep outside crash_states store ((was.log.head.count + 1, changes) ∷ []) old new result
-  step_by result put has = put.steps Plain ((was.log.head.count + 1, changes) ∷ []) settled
+  step_by result put has = put.steps was.log.suite ((was.log.head.count + 1, changes) ∷ []) settled
       (λ sound. commit_goes_on (outside old) was entries before behind changes prepared list values not_full counts_on c ps space next
       at_head sound.tells (has sound))
 
-  pub fault_call : (now_is : memory.Store) (x : Failed) → PutCommit outside crash_states secret was.log.head c ps old new (Err x) → now_is ≡ was → IsCommitCall {T = Unit {0}} outside crash_states changes was now_is old new (Err Fault)
+  pub fault_call : (now_is : OpenLog) (x : Failed) → PutCommit outside crash_states secret was.log.head c ps old new (Err x) → now_is ≡ was → IsCommitCall {T = Unit {0}} outside crash_states changes was now_is old new (Err Fault)
   fault_call now_is x put kept = record {
     added = λ tells. added_err outside crash_states (Knows (outside old) was) (OneCommit store changes) store old new (Err x) (Err Fault) refl (added_by (Err x) put tells);
     knows = λ tells. tt;
@@ -173,7 +173,7 @@ module _ {D : Type 0} (outside : D → Outside) (crash_states : D → CrashState
         (step_by (Err x) put has);
   }
 
-  module _ (now_is : memory.Store) (x : Unit {0}) (head : Head) (put : PutCommit outside crash_states secret was.log.head c ps old new (Ok head)) (keys : now_is.keys ≡ was.keys) (head_is : now_is.log.head ≡ head) (segments : now_is.log.segments ≡ space)
+  module _ (now_is : OpenLog) (x : Unit {0}) (head : Head) (put : PutCommit outside crash_states secret was.log.head c ps old new (Ok head)) (keys : now_is.keys ≡ was.keys) (suite : now_is.log.suite ≡ was.log.suite) (head_is : now_is.log.head ≡ head) (segments : now_is.log.segments ≡ space)
       (overlay : now_is.log.overlay ≡ noted_all c.count was.log.overlay entries) where
     head_next : now_is.log.head ≡ next_head secret was.log.head c
     head_next = head_is ∙ put.head_is
@@ -182,7 +182,9 @@ module _ {D : Type 0} (outside : D → Outside) (crash_states : D → CrashState
     whole = put.puts.in_order ∙ ap (λ (l : List Placed). put.puts.done ++ l) (put.puts.complete refl) ∙ append-nil put.puts.done
 
     same_as : store_of now_is ≡ store
-    same_as = ap (λ (s : List ℕ). let y : Store = record { secret = s; suite = Plain } in y) keys
+    same_as =
+        ap (λ (s : List ℕ). let y : Store = record { secret = s; suite = now_is.log.suite } in y) keys
+        ∙ ap (λ (s : Suite). let y : Store = record { secret = was.keys; suite = s } in y) suite
 
     -- the chain of the new anchor is one text longer
     chain_of : (outside new).trace ≡ with_all_written (outside old).trace (ps ++ text_in_slot secret c ∷ []) → (outside new).anchor ≡ (was.log.head.count + 1, sha256 (text_of secret c)) → IsUnforged (outside new).trace (commit_of (commit_key_of secret))

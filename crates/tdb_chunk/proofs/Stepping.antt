@@ -27,11 +27,11 @@ use Rattle.tdb_overlay.proofs.NextTexts.{next_by_pieces, start_goes_on}
 use Rattle.tdb_overlay.proofs.OneLog.{log_is_one}
 use Rattle.tdb_overlay.proofs.RanLaws.{still_anchored, still_intact, still_leads}
 use Rattle.tdb_overlay.proofs.SealedPuts.{only_sealed_none}
-use Rattle.tdb_chunk.specs.Formatting.{IsStart, plain_store}
+use Rattle.tdb_chunk.specs.Formatting.{IsStart}
 use Rattle.tdb_chunk.specs.Known.{IsAtHead, Knows, store_of}
 use Rattle.tdb_chunk.specs.Preparing.{IsNext, IsPrepared}
 use Rattle.tdb_chunk.specs.Stepping.{HasKnownLog, IsCommitStep}
-use Rattle.tdb_chunk.specs.declared.store.Store as memory
+use Rattle.tdb_chunk.specs.declared.open_log.OpenLog.{OpenLog}
 use Rattle.tdb_chunk.proofs.Committing.{next_step}
 use Rattle.tdb_chunk.proofs.Starting.{first_steps}
 
@@ -95,7 +95,7 @@ module _ {D : Type 0} (outside : D → Outside) (crash_states : D → CrashState
     }
 
 -- The step of a commit, where one log of a known state is given.
-pub step_from : {D T E : Type 0} (outside : D → Outside) (crash_states : D → CrashStates) (changes : List Change) (was : memory.Store)
+pub step_from : {D T E : Type 0} (outside : D → Outside) (crash_states : D → CrashStates) (changes : List Change) (was : OpenLog)
     (old new : D) (result : Result T E) → IsCommitStep outside crash_states changes was old new result
     → (before : History) (from : StoreState) → IsLog (outside old).trace.written (store_of was) (outside old).anchor before from
     → Knows (outside old) was from
@@ -105,7 +105,7 @@ step_from outside crash_states changes was old new result steps before from log 
     (steps (λ sound. record { before = before; last = from; log = log; known = known }))
 
 -- The text of a commit that is laid comes next in the log that is known, and no other log has its anchor.
-module _ (o : Outside) (was : memory.Store) (entries : List Entry) (before : List Placed) (behind : SegmentSpace) (changes : List Change)
+module _ (o : Outside) (was : OpenLog) (entries : List Entry) (before : List Placed) (behind : SegmentSpace) (changes : List Change)
     (prepared : IsPrepared o was entries before behind changes) (list : IsList entries) (values : AllByRecursion IsEntryValue entries)
     (not_full : was.log.head.count ≢ was.log.head.base + 1000) (counts_on : was.log.head.count < 18446744073709551615) (c : Commit)
     (ps : List Placed) (space : SegmentSpace) (next : IsNext was entries before behind c ps space) (at_head : IsAtHead o was)
@@ -147,15 +147,14 @@ module _ (o : Outside) (was : memory.Store) (entries : List Entry) (before : Lis
       )
 
 -- The start of a log comes next where the anchor counts nothing.
-pub format_goes_on : (o : Outside) (secret : List ℕ) (head : Head) (segments : ℕ) (c : Commit) (ps : List Placed) (space : SegmentSpace)
-    → IsStart secret head segments c ps space → head.count ≡ 0 → head.mark.0 ≡ replicate 32 0 → o.anchor.0 ≡ 0
-    → GoesOnWith o.trace.written (plain_store secret) o.anchor c ps []
-format_goes_on o secret head segments c ps space s zero_count zeros start =
-    let store : Store = plain_store secret in
+pub format_goes_on : (o : Outside) (store : Store) (head : Head) (segments : ℕ) (c : Commit) (ps : List Placed) (space : SegmentSpace)
+    → IsStart store head segments c ps space → head.count ≡ 0 → head.mark.0 ≡ replicate 32 0 → o.anchor.0 ≡ 0
+    → GoesOnWith o.trace.written store o.anchor c ps []
+format_goes_on o store head segments c ps space s zero_count zeros start =
     let empty : IsLog o.trace.written store o.anchor [] first_state = subst
     (λ (n : ℕ). IsLog o.trace.written store (n, o.anchor.1) [] first_state) (sym start)
     (record { chain = []; ends = refl; tells = (refl, refl) }) in
-    let steps = first_steps o secret head segments c ps space s zero_count start [] first_state empty tt in
+    let steps = first_steps o store head segments c ps space s zero_count start [] first_state empty tt in
     start_goes_on o.trace.written store o.anchor c ps steps.1 start
     (omega (arith, ap (λ (k : Commit). k.count) s.commit, zero_count)) (ap (λ (k : Commit). k.prev.0) s.commit ∙ zeros)
     (ap (λ (k : Commit). k.root) s.commit)

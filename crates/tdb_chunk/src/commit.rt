@@ -12,7 +12,7 @@ ghost use Rattle.tdb_seg.specs.SegmentSpace.{place_in};
 ghost use Rattle.tdb_overlay.specs.Covering.{noted_all};
 ghost use Rattle.tdb_overlay.specs.Found as found;
 ghost use Rattle.tdb_overlay.specs.Growth.{IsSettled};
-ghost use Rattle.tdb_overlay.specs.StoreState.{StoreState, commit_on};
+ghost use Rattle.tdb_overlay.specs.StoreState.{StoreState, commit_on, record_length};
 ghost use Rattle.tdb_chunk.specs.Committing.{IsCommitCall, is_early, is_refusal};
 ghost use Rattle.tdb_chunk.specs.Known.{IsAtHead, Knows, store_of};
 ghost use Rattle.tdb_chunk.specs.LaidOut.{LaidOut};
@@ -20,12 +20,11 @@ ghost use Rattle.tdb_chunk.specs.Preparing.{IsNext, IsPrepared, refused_by};
 ghost use Rattle.tdb_chunk.specs.declared.batch.LayError.TheVariants as lay;
 
 use crate::batch::{Batch, LayError};
+use crate::open_log::OpenLog;
 use crate::records::seal_list;
-use crate::store::Store;
 use crate::text::put_commit;
 use std::alloc::Global;
 use tdb_append::{HeadError, may_commit};
-use tdb_base::Suite;
 use tdb_list::Entry;
 use tdb_mark::{COMMIT, Commit};
 use tdb_model::{CHANGE_LIMIT, CommitError};
@@ -52,7 +51,7 @@ pub(crate) fn refused(error: LayError) -> CommitError
     }
 }
 
-impl Store {
+impl OpenLog {
     /// Whether a commit of so many changes may follow.
     pub(crate) fn may_follow(&self, number: usize) -> Result<(), CommitError>
         requires few { number < 2 ^ 32 }
@@ -90,13 +89,13 @@ impl Store {
         requires counts_on { self.now.log.head.count < 18446744073709551615 }
         requires laid_out { LaidOut self.now.keys self.now.log.segments batch.segments (placed batch.pieces.items) }
         ensures next { IfOk result (λ next. IsNext self.now entries.now (placed batch.pieces.items) batch.segments next.commit (placed next.batch.pieces.items) next.batch.segments) }
-        ensures refused { (refusal : room.NoRoom) → result ≡ Err (lay.NoRoom refusal) → place_in batch.segments (64 + 72 * length entries.now) 4 ≡ Err refusal }
+        ensures refused { (refusal : room.NoRoom) → result ≡ Err (lay.NoRoom refusal) → place_in batch.segments (record_length self.now.log.suite (16 + 72 * length entries.now)) 4 ≡ Err refusal }
     {
-        let list = seal_list(alloc, &self.keys, entries)?;
+        let list = seal_list(alloc, &self.keys, self.log.suite, entries)?;
         let first = batch.lay(list, KEPT_FREE)?;
         let commit = Commit {
             kind: COMMIT,
-            suite: Suite::Plain,
+            suite: self.log.suite,
             count: self.log.head.count + 1,
             prev: self.log.head.mark,
             base: self.log.head.base,

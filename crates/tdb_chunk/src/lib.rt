@@ -10,14 +10,14 @@ mod changes;
 mod chunk;
 mod commit;
 mod format;
+mod open_log;
 mod opening;
 mod reading;
 mod records;
-mod store;
 #[cfg(test)]
 mod tests;
 mod text;
 
 pub use chunk::Chunk;
 pub use format::StoreError;
-pub use store::Store;
+pub use open_log::OpenLog;

@@ -12,7 +12,7 @@ use Rattle.tdb_platform.specs.CrashStates.{now}
 use Rattle.tdb_overlay.specs.NextText.{IsLaidText}
 use Rattle.tdb_overlay.specs.SealedOnly.{IsTextInSlot}
 use Rattle.tdb_overlay.proofs.PutRan.{put_ran}
-use Rattle.tdb_chunk.specs.Stepping.{store_with}
+use Rattle.tdb_chunk.specs.Formatting.{store_under}
 use Rattle.tdb_chunk.proofs.Laying.{put_sealed}
 use Rattle.tdb_chunk.proofs.text.put_commit.Goals as goal
 
@@ -58,7 +58,7 @@ returns-clause-steps g c records suite added settled goes =
       apart = c.requires.apart;
     } in
     let next = sym c.requires.next_count in
-    put_ran outside crash_states g.met.P.Platform.counts g.met.P.Platform.numbered (store_with secret suite) old new text commit ps added
+    put_ran outside crash_states g.met.P.Platform.counts g.met.P.Platform.numbered (store_under secret suite) old new text commit ps added
     laid settled goes c.put.result
     (subst (λ (n : ℕ). Puts outside crash_states old new (ps ++ record { place = slot_place n; bytes = text } ∷ []) (n, sha256 text)
     c.put.result) next c.put.ensures.puts) c.put.ensures.told

@@ -1,6 +1,6 @@
 use Rattle.tdb_overlay.specs.Covering.{Covers}
 use Rattle.tdb_chunk.proofs.Writing.{writable_by}
-use Rattle.tdb_chunk.proofs.store.Store.may_write.Goals as goal
+use Rattle.tdb_chunk.proofs.open_log.OpenLog.may_write.Goals as goal
 
 pub returns-then-is_number : goal.returns-then-is_number
 returns-then-is_number c =

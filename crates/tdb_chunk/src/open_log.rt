@@ -1,11 +1,11 @@
-//! An open store.
+//! An open log.
 ghost use Rattle.tdb_overlay.specs.Recovered.{HasCounts};
 
 use tdb_overlay::{Keys, Recovered};
 
-/// A store whose log is open: its keys, and what is kept in memory of the log.
+/// A log that is open: its store's keys, and what is kept in memory of it. The platform that it stands on is its caller's.
 #[derive(Drop)]
-pub struct Store {
+pub struct OpenLog {
     pub(crate) keys: Keys,
     pub(crate) log: Recovered,
     ghost counts: { HasCounts log },

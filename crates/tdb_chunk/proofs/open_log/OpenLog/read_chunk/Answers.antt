@@ -9,7 +9,7 @@ use Rattle.tdb_seal.specs.SealedRecord.{IsSealedRecord}
 use Rattle.tdb_seal.specs.declared.record.SealError.{SealError}
 use Rattle.tdb_chunk.specs.Reading.{IsDamageOf, name_of}
 use Rattle.tdb_chunk.proofs.Shown.{damage_is, opened_is, read_is}
-use Rattle.tdb_chunk.proofs.store.Store.read_chunk.Goals as goal
+use Rattle.tdb_chunk.proofs.open_log.OpenLog.read_chunk.Goals as goal
 
 the_damage : {T : Type 0} (a b : Damage) → ◌≡◌ {A = Result T ReadError} (Err (answers.Tampered a)) (Err (answers.Tampered b)) → a ≡ b
 the_damage a b is = cc

@@ -11,7 +11,7 @@ use Rattle.tdb_chunk.specs.declared.batch.LayError.TheVariants.{NoRoom}
 use Rattle.tdb_chunk.specs.declared.chunk.Chunk.{Chunk}
 use Rattle.tdb_chunk.proofs.Laying.{laid_out_none}
 use Rattle.tdb_chunk.proofs.Writing.{laid_more, laid_none, laid_refused, limits_at}
-use Rattle.tdb_chunk.proofs.store.Store.lay_each.Goals as goal
+use Rattle.tdb_chunk.proofs.open_log.OpenLog.lay_each.Goals as goal
 
 the_error : {T : Type 0} (a b : LayError) → ◌≡◌ {A = Result T LayError} (Err a) (Err b) → a ≡ b
 the_error a b is = cc

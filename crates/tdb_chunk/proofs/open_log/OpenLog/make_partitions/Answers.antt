@@ -10,7 +10,7 @@ use Rattle.tdb_chunk.specs.Preparing.{IsPrepared}
 use Rattle.tdb_chunk.specs.Writing.{IsWritable, make_entry}
 use Rattle.tdb_chunk.proofs.Calling.{refusal_is_no_fault, refused_call}
 use Rattle.tdb_chunk.proofs.Writing.{makes_check, makes_noted, makes_prepared, on_ok_then}
-use Rattle.tdb_chunk.proofs.store.Store.make_partitions.Goals as goal
+use Rattle.tdb_chunk.proofs.open_log.OpenLog.make_partitions.Goals as goal
 
 pub returns-in-Ok-clause-commit : goal.returns-in-Ok-clause-commit
 returns-in-Ok-clause-commit g c =

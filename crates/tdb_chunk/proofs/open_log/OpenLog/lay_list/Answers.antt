@@ -1,7 +1,7 @@
 use Rattle.tdb_append.specs.Placed.{placed}
 use Rattle.tdb_base.specs.declared.piece.Piece.{Piece}
 use Rattle.tdb_chunk.proofs.Committing.{next_is}
-use Rattle.tdb_chunk.proofs.store.Store.lay_list.Goals as goal
+use Rattle.tdb_chunk.proofs.open_log.OpenLog.lay_list.Goals as goal
 
 pub returns-clause-next : goal.returns-clause-next
 returns-clause-next c =

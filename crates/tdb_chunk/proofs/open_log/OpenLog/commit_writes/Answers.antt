@@ -13,7 +13,7 @@ use Rattle.tdb_chunk.specs.Writing.{IsWritable, write_of, writes_of}
 use Rattle.tdb_chunk.specs.declared.batch.LayError.{LayError}
 use Rattle.tdb_chunk.proofs.Calling.{if_no_room, refusal_is_no_fault, refused_call, refused_is_no_fault}
 use Rattle.tdb_chunk.proofs.Writing.{on_ok_then, writes_check, writes_list, writes_noted, writes_prepared, writes_refused}
-use Rattle.tdb_chunk.proofs.store.Store.commit_writes.Goals as goal
+use Rattle.tdb_chunk.proofs.open_log.OpenLog.commit_writes.Goals as goal
 
 pub commit_entries-requires-clause-list : goal.commit_entries-requires-clause-list
 commit_entries-requires-clause-list g c =

@@ -4,7 +4,7 @@ use Rattle.std.proofs.lemmas.Result.{IfErr-weaker, IfOk-weaker}
 use Rattle.tdb_overlay.proofs.ReadingLaws.{reads_nothing}
 use Rattle.tdb_chunk.specs.Reading.{IsLate}
 use Rattle.tdb_chunk.proofs.Shown.{damaged_chunk, known_chunk, known_lack}
-use Rattle.tdb_chunk.proofs.store.Store.read.Goals as goal
+use Rattle.tdb_chunk.proofs.open_log.OpenLog.read.Goals as goal
 
 pub returns-in_default-clause-reads : goal.returns-in_default-clause-reads
 returns-in_default-clause-reads g c = reads_nothing g.P.Platform.outside g.P.Platform.crash_states g.met.P.Platform.counts c.args.platform.now

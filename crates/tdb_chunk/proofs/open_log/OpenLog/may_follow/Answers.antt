@@ -4,7 +4,7 @@ use Rattle.tdb_model.specs.declared.error.CommitError.{CommitError}
 use Rattle.tdb_model.specs.declared.error.CommitError.TheVariants as refusals
 use Rattle.tdb_overlay.specs.StoreState.{StoreState}
 use Rattle.tdb_chunk.proofs.Committing.{counter_end, few_pass, ring_full, too_many}
-use Rattle.tdb_chunk.proofs.store.Store.may_follow.Goals as goal
+use Rattle.tdb_chunk.proofs.open_log.OpenLog.may_follow.Goals as goal
 
 pub returns-then-number-gt-CHANGE_LIMIT-clause-refused : goal.returns-then-number-gt-CHANGE_LIMIT-clause-refused
 returns-then-number-gt-CHANGE_LIMIT-clause-refused c store last changes number count base passes =
