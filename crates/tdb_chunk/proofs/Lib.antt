@@ -2,6 +2,7 @@ pub mod Calling
 pub mod Committing
 pub mod Growing
 pub mod Keeping
+pub mod Knowing
 pub mod Laying
 pub mod Logs
 pub mod Sealing
