@@ -31,10 +31,12 @@ use Rattle.tdb_overlay.specs.Log.{IsLog}
 use Rattle.tdb_overlay.specs.SealedOnly.{OnlySealed}
 use Rattle.tdb_overlay.specs.StoreState.{StoreState, commit_on, committed}
 use Rattle.tdb_mark.specs.CommitChain.{commit_chain}
-use Rattle.tdb_chunk.specs.Committing.{AddedFrom, IsCommitCall, IsKept, IsLonger, is_refusal}
+use Rattle.tdb_chunk.specs.Committing.{AddedFrom, IsCommitCall, IsLonger, is_refusal}
 use Rattle.tdb_chunk.specs.Known.{IsAtHead, Knows, store_of}
 use Rattle.tdb_chunk.specs.LaidOut.{IsFreshIn}
 use Rattle.tdb_chunk.specs.Preparing.{IsNext, IsPrepared, refused_by}
+use Rattle.tdb_chunk.specs.Stepping.{IsPutStep, HasKnownLog}
+use Rattle.tdb_overlay.specs.Sound.{IsSound}
 use Rattle.tdb_base.specs.declared.piece.NoRoom as room
 use Rattle.tdb_chunk.specs.declared.batch.LayError.{LayError}
 use Rattle.tdb_chunk.specs.declared.batch.LayError.TheVariants as lay
@@ -46,6 +48,8 @@ use Rattle.tdb_chunk.proofs.Keeping.{put_keeps}
 use Rattle.tdb_chunk.proofs.Laying.{sealed_none}
 use Rattle.tdb_overlay.proofs.PutLogs.{found_in_put, grows_all, longer_chain, follows_is, unread_by}
 use Rattle.tdb_chunk.proofs.Logs.{put_adds}
+use Rattle.tdb_chunk.proofs.Stepping.{commit_goes_on, none_step, step_err, step_ok}
+use Rattle.tdb_overlay.specs.Ran.{RanStep}
 use Rattle.std.proofs.lemmas.List.{append-nil}
 
 no_fault : (e : CommitError) → ◌≡◌ {A = CommitError} e Fault → IsTrue (is_refusal e) → ⊥
@@ -59,9 +63,9 @@ ok_is_no_err x is = cc
 
 -- a commit that was refused, or wanted memory, before anything was written
 pub refused_call : {D : Type 0} (outside : D → Outside) (crash_states : D → CrashStates) (counts : Counts outside crash_states) (changes : List Change) (was now_is : OpenLog) (p : D) (e : CommitError) → IsSettled outside crash_states p → e ≢ Fault
-    → (IsTrue (is_refusal e) → now_is ≡ was) → ((last : StoreState) → Knows (outside p) was last → IsTrue (is_refusal e) → commit_on (store_of was) last changes ≡ Err e)
-    → IsKept was now_is → IsCommitCall {T = Unit {0}} outside crash_states changes was now_is p p (Err e)
-refused_call {D} outside crash_states counts changes was now_is p e settled isnt same refuses kept = record {
+    → now_is ≡ was → ((last : StoreState) → Knows (outside p) was last → IsTrue (is_refusal e) → commit_on (store_of was) last changes ≡ Err e)
+    → IsCommitCall {T = Unit {0}} outside crash_states changes was now_is p p (Err e)
+refused_call {D} outside crash_states counts changes was now_is p e settled isnt kept refuses = record {
   added = λ tells. none_added {T = Unit {0}} {E = CommitError} outside crash_states counts (Knows (outside p) was) (OneCommit (store_of was) changes) (store_of was) p (Err e) tells settled refl;
   knows = λ tells. tt;
   whole = λ tells unforged before from is known intact. intact;
@@ -69,7 +73,6 @@ refused_call {D} outside crash_states counts changes was now_is p e settled isnt
   allowed = λ last known. tt;
   fault_allowed = λ is. absurd (isnt (fault_of {T = Unit {0}} e is));
   kept = kept;
-  store_stays = same;
   platform_stays = λ is. refl;
   at_head = tt;
   same_store = tt;
@@ -81,6 +84,7 @@ refused_call {D} outside crash_states counts changes was now_is p e settled isnt
   faults = omega arith;
   unread = λ tells. refl;
   sealed = λ tells. sealed_none was.keys (outside p).trace;
+  steps = λ has. none_step outside crash_states (store_of was) ((was.log.head.count + 1, changes) ∷ []) p e;
 }
 
 -- what the put of a commit says
@@ -92,6 +96,7 @@ pub record PutCommit {D : Type 0} (outside : D → Outside) (crash_states : D �
   pub reads : commit_of (commit_key_of secret) (text_of secret c) ≡ Some c
   pub told : Told (outside old) (outside new) result
   pub sealed : OnlySealed secret (outside old) (outside new)
+  pub steps : IsPutStep outside crash_states secret c ps old new result
 
 module _ {D : Type 0} (outside : D → Outside) (crash_states : D → CrashStates) (counts : Counts outside crash_states) (was : OpenLog) (entries : List Entry) (before : List Placed) (behind : SegmentSpace) (changes : List Change) (old new : D)
     (prepared : IsPrepared (outside old) was entries before behind changes) (list : IsList entries) (values : AllByRecursion IsEntryValue entries) (not_full : was.log.head.count ≢ was.log.head.base + 1000) (counts_on : was.log.head.count < 18446744073709551615)
@@ -137,7 +142,14 @@ module _ {D : Type 0} (outside : D → Outside) (crash_states : D → CrashState
       (subst (λ (s : SegmentSpace). All (IsFreshIn s) ps) known.space next.laid.fresh) put.puts.in_order (put.puts.wrote.trace tells) (sym known.count) intact was.log.head.mark.0 ((from.count + 1, changes) ∷ []) (committed from changes space) prev some
       (next_step (outside old) was entries before behind changes prepared list not_full counts_on from known c ps space next values) based (at_count tells) (inl (at_head tells)) unforged (put.puts.anchor tells)
 
-  pub fault_call : (now_is : OpenLog) (x : Failed) → PutCommit outside crash_states secret was.log.head c ps old new (Err x) → IsKept was now_is → IsCommitCall {T = Unit {0}} outside crash_states changes was now_is old new (Err Fault)
+  step_by : (result : Result Head Failed) → PutCommit outside crash_states secret was.log.head c ps old new result
+      → (IsSound secret (outside old) → HasKnownLog (outside old) was)
+      → RanStep outside crash_states store ((was.log.head.count + 1, changes) ∷ []) old new result
+  step_by result put has = put.steps was.log.suite ((was.log.head.count + 1, changes) ∷ []) settled
+      (λ sound. commit_goes_on (outside old) was entries before behind changes prepared list values not_full counts_on c ps space next
+      at_head sound.tells (has sound))
+
+  pub fault_call : (now_is : OpenLog) (x : Failed) → PutCommit outside crash_states secret was.log.head c ps old new (Err x) → now_is ≡ was → IsCommitCall {T = Unit {0}} outside crash_states changes was now_is old new (Err Fault)
   fault_call now_is x put kept = record {
     added = λ tells. added_err outside crash_states (Knows (outside old) was) (OneCommit store changes) store old new (Err x) (Err Fault) refl (added_by (Err x) put tells);
     knows = λ tells. tt;
@@ -146,7 +158,6 @@ module _ {D : Type 0} (outside : D → Outside) (crash_states : D → CrashState
     allowed = λ last known. tt;
     fault_allowed = λ is last known. (committed last changes space, allowed_on (outside old) was entries before behind changes prepared list not_full counts_on last known c ps space next values);
     kept = kept;
-    store_stays = λ refusal. absurd (false≢true refusal);
     platform_stays = λ isnt. absurd (isnt refl);
     at_head = tt;
     same_store = tt;
@@ -158,6 +169,8 @@ module _ {D : Type 0} (outside : D → Outside) (crash_states : D → CrashState
     faults = put.told.no_fewer_faults;
     unread = λ tells. unread_by (outside old).trace (outside new).trace put.puts.done (put.puts.wrote.trace tells);
     sealed = put.sealed;
+    steps = λ has. step_err outside crash_states store ((was.log.head.count + 1, changes) ∷ []) old new (Err x) x Fault refl
+        (step_by (Err x) put has);
   }
 
   module _ (now_is : OpenLog) (x : Unit {0}) (head : Head) (put : PutCommit outside crash_states secret was.log.head c ps old new (Ok head)) (keys : now_is.keys ≡ was.keys) (suite : now_is.log.suite ≡ was.log.suite) (head_is : now_is.log.head ≡ head) (segments : now_is.log.segments ≡ space)
@@ -210,7 +223,6 @@ module _ {D : Type 0} (outside : D → Outside) (crash_states : D → CrashState
       allowed = λ last known. (committed last changes space, allowed_on (outside old) was entries before behind changes prepared list not_full counts_on last known c ps space next values);
       fault_allowed = λ is. absurd (ok_is_no_err x is);
       kept = tt;
-      store_stays = tt;
       platform_stays = tt;
       at_head = λ tells. put.advanced (subst IsTrue put.told.tells tells) ∙ sym (ap (λ (h : Head). (h.count, h.mark.0)) head_next);
       same_store = same_as;
@@ -222,6 +234,8 @@ module _ {D : Type 0} (outside : D → Outside) (crash_states : D → CrashState
       faults = put.told.no_fewer_faults;
       unread = λ tells. unread_by (outside old).trace (outside new).trace put.puts.done (put.puts.wrote.trace tells);
       sealed = put.sealed;
+      steps = λ has. step_ok outside crash_states store ((was.log.head.count + 1, changes) ∷ []) old new (Ok head) head x refl
+          (step_by (Ok head) put has);
     }
 
 -- a record that got no place is no fault of the platform

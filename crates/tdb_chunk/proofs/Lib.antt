@@ -3,11 +3,14 @@ pub mod Calling
 pub mod Committing
 pub mod Growing
 pub mod Keeping
+pub mod Knowing
 pub mod Laying
 pub mod Logs
 pub mod Sealing
 pub mod Shown
 pub mod Standing
 pub mod Starting
+pub mod Stepping
 pub mod StoreReads
+pub mod Unchanged
 pub mod Writing

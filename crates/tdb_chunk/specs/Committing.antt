@@ -16,6 +16,7 @@ use Rattle.tdb_overlay.specs.Log.{IsLog}
 use Rattle.tdb_overlay.specs.SealedOnly.{OnlySealed}
 use Rattle.tdb_overlay.specs.StoreState.{StoreState, commit_on}
 use Rattle.tdb_chunk.specs.Known.{IsAtHead, Knows, store_of}
+use Rattle.tdb_chunk.specs.Stepping.{IsCommitStep}
 use Rattle.tdb_chunk.specs.declared.open_log.OpenLog.{OpenLog}
 
 -- which last states of a log are known
@@ -61,10 +62,6 @@ pub record IsLonger (old new : Outside) (was now : OpenLog) (changes : List Chan
   pub log : IsLog new.trace.written (store_of was) new.anchor (before ++ (from.count + 1, changes) ∷ []) to
   pub knows : Knows new now to
 
--- the keys, the head, the segments and the suite are as they were
-abbrev pub IsKept : OpenLog → OpenLog → Type 0
-IsKept was now = (now.keys ≡ was.keys) × (now.log.head ≡ was.log.head) × (now.log.segments ≡ was.log.segments) × (now.log.suite ≡ was.log.suite)
-
 -- Of a commit of changes: what it adds to the log, what the store knows afterwards, and what each refusal means.
 pub record IsCommitCall {D T : Type 0} (outside : D → Outside) (crash_states : D → CrashStates) (changes : List Change) (was now_is : OpenLog) (old new : D) (result : Result T CommitError) : Type 0 where
   -- it adds one commit of these changes to the log that the store knows
@@ -79,9 +76,8 @@ pub record IsCommitCall {D T : Type 0} (outside : D → Outside) (crash_states :
   pub refused : (last : StoreState) → Knows (outside old) was last → IfErr result (λ e. IsTrue (is_refusal e) → commit_on (store_of was) last changes ≡ Err e)
   pub allowed : (last : StoreState) → Knows (outside old) was last → OnOk result (IsAllowedOn (store_of was) last changes)
   pub fault_allowed : result ≡ Err Fault → (last : StoreState) → Knows (outside old) was last → IsAllowedOn (store_of was) last changes
-  -- what failed leaves the keys, the head, the segments and the suite; what was refused leaves all
-  pub kept : IfErr result (λ e. IsKept was now_is)
-  pub store_stays : IfErr result (λ e. IsTrue (is_refusal e) → now_is ≡ was)
+  -- what was refused or failed leaves the open log as it was, and the platform too unless that failed
+  pub kept : IfErr result (λ e. now_is ≡ was)
   pub platform_stays : IfErr result (λ e. e ≢ Fault → new ≡ old)
   pub at_head : OnOk result (IsAtHead (outside new) now_is)
   pub same_store : OnOk result (store_of now_is ≡ store_of was)
@@ -95,3 +91,5 @@ pub record IsCommitCall {D T : Type 0} (outside : D → Outside) (crash_states :
   pub unread : IsTrue (outside old).tells → (outside new).trace.read ≡ (outside old).trace.read
   -- only sealed records and texts go to the device
   pub sealed : OnlySealed was.keys (outside old) (outside new)
+  -- where the open log knows the log, it is a step of a run
+  pub steps : IsCommitStep outside crash_states changes was old new result

@@ -10,5 +10,6 @@ pub mod Formatting
 pub mod Names
 pub mod Preparing
 pub mod Reading
+pub mod Stepping
 pub mod Text
 pub mod Writing

@@ -121,8 +121,8 @@ impl OpenLog {
 
     /// Makes the empty partitions 1 and 2 in suite plain, by one commit.
     ///
-    /// After a refusal the store is as it was. After `Err(Memory)` the platform is as it was, and after `Err(Fault)` the
-    /// commit stands or not; then the store is of no more use.
+    /// After an error the open log is as it was, and the platform too, unless it failed. After `Err(Fault)` the commit
+    /// stands or not; then the open log is of no more use.
     pub fn make_partitions<P: Platform>(
         &mut self,
         alloc: Global,
@@ -149,8 +149,8 @@ impl OpenLog {
 
     /// Writes chunks of a partition, one or more, by one commit. Of two with one rank the later one counts.
     ///
-    /// After a refusal the store is as it was. After `Err(Memory)` the platform is as it was, and after `Err(Fault)` the
-    /// commit stands or not; then the store is of no more use.
+    /// After an error the open log is as it was, and the platform too, unless it failed. After `Err(Fault)` the commit
+    /// stands or not; then the open log is of no more use.
     pub fn commit_writes<P: Platform>(
         &mut self,
         alloc: Global,

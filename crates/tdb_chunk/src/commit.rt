@@ -130,13 +130,14 @@ impl OpenLog {
             Ok(next) => next,
             Err(error) => return Err(refused(error)),
         };
-        let Ok(()) = self.log.overlay.note(alloc, commit.count, entries) else {
+        let Ok(reserved) = self.log.overlay.reserve(alloc, commit.count, entries) else {
             return Err(CommitError::Memory);
         };
         let Ok(head) = put_commit(platform, &self.keys, &self.log.head, &commit, &batch.pieces)
         else {
             return Err(CommitError::Fault);
         };
+        self.log.overlay.take_in(reserved);
         self.log.head = head;
         self.log.segments = batch.segments;
         Ok(())

@@ -1,5 +1,5 @@
 //! The start of a log on a device.
-ghost use Rattle.std.specs.Prelude.{◌≡◌, ◌≤◌, ◌+◌, Err, IfErr, IfOk, IsTrue, OnOk, replicate};
+ghost use Rattle.std.specs.Prelude.{◌≡◌, ◌≤◌, ◌+◌, [], Err, IfErr, IfOk, IsTrue, OnOk, replicate};
 ghost use Rattle.tdb_append.specs.Placed.{placed};
 ghost use Rattle.tdb_base.specs.Rose.{Rose};
 ghost use Rattle.tdb_mark.specs.declared.commit.Commit.{Commit};
@@ -7,6 +7,7 @@ ghost use Rattle.tdb_seg.specs.SegmentSpace.{fresh_space, with_bytes};
 ghost use Rattle.tdb_overlay.specs.StoreState.{first_place, formatted_state, record_length};
 ghost use Rattle.tdb_overlay.specs.Growth.{Added, IsSettled};
 ghost use Rattle.tdb_overlay.specs.Intact.{StaysIntact};
+ghost use Rattle.tdb_overlay.specs.Ran.{RanStep};
 ghost use Rattle.tdb_overlay.specs.SealedOnly.{OnlySealed};
 ghost use Rattle.tdb_chunk.specs.declared.format.StoreError.TheVariants.{Fault, Memory};
 ghost use Rattle.tdb_chunk.specs.Formatting.{Formatted, IsStart, store_under};
@@ -146,6 +147,8 @@ impl OpenLog {
         ensures unread { IsTrue (P.outside platform.old).tells → (P.outside platform.new).trace.read ≡ (P.outside platform.old).trace.read }
         // only sealed records and texts go to the device
         ensures sealed { OnlySealed keys (P.outside platform.old) (P.outside platform.new) }
+        // it is a step of a run, which adds no commit
+        ensures steps { RanStep P.outside P.crash_states (store_under keys suite) [] platform.old platform.new result }
         ensures memory { result ≡ Err Memory → platform.new ≡ platform.old }
         ensures fault { result ≡ Err Fault → Rose (P.outside platform.old).faults (P.outside platform.new).faults }
         ensures tells { (P.outside platform.new).tells ≡ (P.outside platform.old).tells }

@@ -38,7 +38,7 @@ module _ {D : Type 0} (outside : D → Outside) (crash_states : D → CrashState
   platform_stays = call.platform_stays (no_fault e is.0)
 
   pub store_stays : now_is ≡ was
-  store_stays = call.store_stays is.0
+  store_stays = call.kept
 
   pub refused_by : OverLog outside old new (store_of was) was (λ history from. IsRefused (store_of was) from changes reply)
   refused_by told sound history from log knows = record { refusal = e; refused = call.refused from knows is.0; told = is.1 }

@@ -58,20 +58,18 @@ returns-in-Err-lay_writes-clause-commit g c =
     let changes = writes_of c.args.part c.args.chunks.now in
     let ok = c.in-Ok.ensures.ok in
     refused_call g.P.Platform.outside g.P.Platform.crash_states g.met.P.Platform.counts changes was was c.args.platform.now c.refused.result c.requires.settled
-    (refused_is_no_fault c.in-Err-lay_writes.error c.refused.result c.refused.ensures.answer) (λ refusal. refl)
+    (refused_is_no_fault c.in-Err-lay_writes.error c.refused.result c.refused.ensures.answer) refl
     (λ last known refusal.
     if_no_room (store_of was) last changes c.in-Err-lay_writes.error c.refused.result c.refused.ensures.answer refusal
     (λ r is.
     writes_refused o was c.args.part c.args.chunks.now w c.requires.limits c.requires.some r ok.1 ok.2 ok.0 (c.in-Err-lay_writes.ensures.refused r (ap (λ (e : LayError). Err e) is)) last known))
-    (refl, refl, refl, refl)
 
 pub returns-in-Err-clause-commit : goal.returns-in-Err-clause-commit
 returns-in-Err-clause-commit g c =
     let was = c.args.self.now in
     let o = g.P.Platform.outside c.args.platform.now in
     let changes = writes_of c.args.part c.args.chunks.now in
-    refused_call g.P.Platform.outside g.P.Platform.crash_states g.met.P.Platform.counts changes was was c.args.platform.now c.in-Err.refusal c.requires.settled (refusal_is_no_fault c.in-Err.refusal c.in-Err.ensures.refusal) (λ refusal. refl)
+    refused_call g.P.Platform.outside g.P.Platform.crash_states g.met.P.Platform.counts changes was was c.args.platform.now c.in-Err.refusal c.requires.settled (refusal_is_no_fault c.in-Err.refusal c.in-Err.ensures.refusal) refl
     (λ last known refusal.
     c.in-Err.ensures.refused (store_of was) last changes (length-map c.args.chunks.now (write_of c.args.part)) (sym known.count) (sym known.base)
     (writes_check o was c.args.part c.args.chunks.now c.requires.writable c.requires.limits c.requires.some last known))
-    (refl, refl, refl, refl)

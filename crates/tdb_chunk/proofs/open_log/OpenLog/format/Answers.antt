@@ -12,11 +12,13 @@ use Rattle.tdb_overlay.specs.Needed.{needed}
 use Rattle.tdb_overlay.specs.SealedOnly.{IsRecord}
 use Rattle.tdb_overlay.proofs.Coverings.{covering_none}
 use Rattle.tdb_chunk.specs.Formatting.{Formatted, store_under}
+use Rattle.tdb_chunk.specs.Stepping.{IsPutStep}
 use Rattle.tdb_chunk.specs.Text.{anchor_of, text_in_slot}
 use Rattle.tdb_chunk.proofs.Keeping.{format_keeps}
 use Rattle.tdb_chunk.proofs.Growing.{added_always, added_err, added_ok, none_added}
 use Rattle.tdb_overlay.proofs.PutLogs.{unread_by}
 use Rattle.tdb_chunk.proofs.Starting.{format_added}
+use Rattle.tdb_chunk.proofs.Stepping.{format_goes_on, none_by, step_err, step_ok}
 use Rattle.tdb_chunk.proofs.open_log.OpenLog.format.Goals as goal
 
 pub put_commit-requires-clause-in_segments : goal.put_commit-requires-clause-in_segments
@@ -110,3 +112,45 @@ returns-clause-whole g c =
     let puts = subst (λ (l : List Laid). Puts outside g.P.Platform.crash_states c.args.platform.now c.put_commit.new.platform (placed l ++ text_in_slot secret commit ∷ []) (anchor_of secret commit) c.put_commit.result) c.deref.ensures.value c.put_commit.ensures.puts in
     format_keeps outside g.P.Platform.crash_states store c.no_head-head.result c.args.segments commit ps batch.segments c.args.platform.now c.put_commit.new.platform c.put_commit.result
     c.in_ok-commit.ensures.start c.no_head-head.ensures.count c.no_head-head.ensures.mark c.put_commit.ensures.reads c.requires.first puts
+
+pub returns-in_err-commit-clause-steps : goal.returns-in_err-commit-clause-steps
+returns-in_err-commit-clause-steps g c =
+    none_by g.P.Platform.outside g.P.Platform.crash_states (store_under c.args.keys c.args.suite) [] c.args.platform.now _ c.from_residual.ensures.0
+
+pub returns-in_default-clause-steps : goal.returns-in_default-clause-steps
+returns-in_default-clause-steps g c =
+    let outside = g.P.Platform.outside in
+    let crash_states = g.P.Platform.crash_states in
+    let secret : List ℕ = c.args.keys in
+    let commit = c.in_ok-commit.field-0.commit in
+    let batch = c.in_ok-commit.field-0.batch in
+    let old = c.args.platform.now in
+    let new = c.put_commit.new.platform in
+    let start = c.in_ok-commit.ensures.start in
+    let records = subst (λ (l : List Laid). All (λ (p : Placed). IsRecord secret p.bytes) (placed l)) (sym c.deref.ensures.value)
+    start.laid.sealed in
+    let steps = subst (λ (l : List Laid). IsPutStep outside crash_states secret commit (placed l) old new c.put_commit.result)
+    c.deref.ensures.value (c.put_commit.ensures.steps records) in
+    step_err outside crash_states (store_under secret c.args.suite) [] old new c.put_commit.result _ _ c.in_default.is
+    (steps c.args.suite [] c.requires.settled
+    (λ sound. format_goes_on (outside old) (store_under secret c.args.suite) c.no_head-head.result c.args.segments commit (placed batch.pieces.items) batch.segments
+    start c.no_head-head.ensures.count c.no_head-head.ensures.mark (c.requires.first sound.tells)))
+
+pub returns-clause-steps : goal.returns-clause-steps
+returns-clause-steps g c =
+    let outside = g.P.Platform.outside in
+    let crash_states = g.P.Platform.crash_states in
+    let secret : List ℕ = c.args.keys in
+    let commit = c.in_ok-commit.field-0.commit in
+    let batch = c.in_ok-commit.field-0.batch in
+    let old = c.args.platform.now in
+    let new = c.put_commit.new.platform in
+    let start = c.in_ok-commit.ensures.start in
+    let records = subst (λ (l : List Laid). All (λ (p : Placed). IsRecord secret p.bytes) (placed l)) (sym c.deref.ensures.value)
+    start.laid.sealed in
+    let steps = subst (λ (l : List Laid). IsPutStep outside crash_states secret commit (placed l) old new c.put_commit.result)
+    c.deref.ensures.value (c.put_commit.ensures.steps records) in
+    step_ok outside crash_states (store_under secret c.args.suite) [] old new c.put_commit.result _ _ c.in-Ok.is
+    (steps c.args.suite [] c.requires.settled
+    (λ sound. format_goes_on (outside old) (store_under secret c.args.suite) c.no_head-head.result c.args.segments commit (placed batch.pieces.items) batch.segments
+    start c.no_head-head.ensures.count c.no_head-head.ensures.mark (c.requires.first sound.tells)))

@@ -39,6 +39,5 @@ returns-in-Err-clause-commit g c =
     let was = c.args.self.now in
     let o = g.P.Platform.outside c.args.platform.now in
     let changes = opening_changes Plain in
-    refused_call g.P.Platform.outside g.P.Platform.crash_states g.met.P.Platform.counts changes was was c.args.platform.now c.in-Err.refusal c.requires.settled (refusal_is_no_fault c.in-Err.refusal c.in-Err.ensures.refusal) (λ refusal. refl)
+    refused_call g.P.Platform.outside g.P.Platform.crash_states g.met.P.Platform.counts changes was was c.args.platform.now c.in-Err.refusal c.requires.settled (refusal_is_no_fault c.in-Err.refusal c.in-Err.ensures.refusal) refl
     (λ last known refusal. c.in-Err.ensures.refused (store_of was) last changes refl (sym known.count) (sym known.base) (makes_check o was c.requires.neither last known))
-    (refl, refl, refl, refl)
