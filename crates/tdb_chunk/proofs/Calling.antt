@@ -21,7 +21,8 @@ use Rattle.tdb_model.specs.declared.error.CommitError.{CommitError}
 use Rattle.tdb_model.specs.declared.error.CommitError.TheVariants.{Fault, Memory, NoRoom}
 use Rattle.tdb_model.specs.Apply.{History}
 use Rattle.tdb_platform.specs.Outside.{Anchor, Outside, Told}
-use Rattle.tdb_platform.specs.CrashStates.{CrashStates, now}
+use Rattle.tdb_platform.specs.CrashStates.{CrashStates, LeavesOnly, Pairs, now}
+use Rattle.tdb_platform.proofs.Moments.{started}
 use Rattle.tdb_seg.specs.SegmentSpace.{SegmentSpace}
 use Rattle.tdb_overlay.specs.Covering.{noted_all}
 use Rattle.tdb_overlay.specs.Found.{Store}
@@ -61,6 +62,11 @@ fault_of e is = cc
 ok_is_no_err : {T : Type 0} (x : T) → ◌≡◌ {A = Result T CommitError} (Ok x) (Err Fault) → ⊥
 ok_is_no_err x is = cc
 
+-- what a stop may leave, with nothing said of it
+any_time : {D : Type 0} (outside : D → Outside) (crash_states : D → CrashStates) (old new : D) {Q : Pairs} → LeavesOnly outside crash_states old new Q
+    → LeavesOnly outside crash_states old new (λ i a. Unit {0})
+any_time outside crash_states old new m = record { later = m.later; each = λ i a left. tt; before = m.before; keeps = m.keeps }
+
 -- a commit that was refused, or wanted memory, before anything was written
 pub refused_call : {D : Type 0} (outside : D → Outside) (crash_states : D → CrashStates) (counts : Counts outside crash_states) (changes : List Change) (was now_is : OpenLog) (p : D) (e : CommitError) → IsSettled outside crash_states p → e ≢ Fault
     → now_is ≡ was → ((last : StoreState) → Knows (outside p) was last → IsTrue (is_refusal e) → commit_on (store_of was) last changes ≡ Err e)
@@ -82,6 +88,8 @@ refused_call {D} outside crash_states counts changes was now_is p e settled isnt
   tells = refl;
   honest = refl;
   faults = omega arith;
+  moments = started outside crash_states counts p (λ i a. Unit {0}) (λ i a left. tt);
+  quiet = tt;
   unread = λ tells. refl;
   sealed = λ tells. sealed_none was.keys (outside p).trace;
   steps = λ has. none_step outside crash_states (store_of was) ((was.log.head.count + 1, changes) ∷ []) p e;
@@ -95,6 +103,7 @@ pub record PutCommit {D : Type 0} (outside : D → Outside) (crash_states : D �
   pub head_is : IfOk result (λ next. next ≡ next_head secret head c)
   pub reads : commit_of (commit_key_of secret) (text_of secret c) ≡ Some c
   pub told : Told (outside old) (outside new) result
+  pub quiet : OnOk result ((outside new).faults ≡ (outside old).faults)
   pub sealed : OnlySealed secret (outside old) (outside new)
   pub steps : IsPutStep outside crash_states secret c ps old new result
 
@@ -167,6 +176,8 @@ module _ {D : Type 0} (outside : D → Outside) (crash_states : D → CrashState
     tells = put.told.tells;
     honest = put.told.honest;
     faults = put.told.no_fewer_faults;
+    moments = any_time outside crash_states old new put.puts.any_moment;
+    quiet = tt;
     unread = λ tells. unread_by (outside old).trace (outside new).trace put.puts.done (put.puts.wrote.trace tells);
     sealed = put.sealed;
     steps = λ has. step_err outside crash_states store ((was.log.head.count + 1, changes) ∷ []) old new (Err x) x Fault refl
@@ -232,6 +243,8 @@ module _ {D : Type 0} (outside : D → Outside) (crash_states : D → CrashState
       tells = put.told.tells;
       honest = put.told.honest;
       faults = put.told.no_fewer_faults;
+      moments = any_time outside crash_states old new put.puts.any_moment;
+      quiet = put.quiet;
       unread = λ tells. unread_by (outside old).trace (outside new).trace put.puts.done (put.puts.wrote.trace tells);
       sealed = put.sealed;
       steps = λ has. step_ok outside crash_states store ((was.log.head.count + 1, changes) ∷ []) old new (Ok head) head x refl

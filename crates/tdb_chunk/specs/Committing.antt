@@ -87,6 +87,9 @@ pub record IsCommitCall {D T : Type 0} (outside : D → Outside) (crash_states :
   pub tells : (outside new).tells ≡ (outside old).tells
   pub honest : (outside new).honest ≡ (outside old).honest
   pub faults : (outside old).faults ≤ (outside new).faults
+  -- time goes on, and with Ok there was no fault
+  pub moments : LeavesOnly outside crash_states old new (λ i a. Unit {0})
+  pub quiet : OnOk result ((outside new).faults ≡ (outside old).faults)
   -- nothing is read from the device
   pub unread : IsTrue (outside old).tells → (outside new).trace.read ≡ (outside old).trace.read
   -- only sealed records and texts go to the device

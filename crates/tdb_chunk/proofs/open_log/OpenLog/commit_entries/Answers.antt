@@ -61,6 +61,7 @@ returns-in_default-put_commit-clause-commit g c = λ changes prepared.
       head_is = c.put_commit.ensures.head;
       reads = c.put_commit.ensures.reads;
       told = c.put_commit.ensures.told;
+      quiet = c.put_commit.ensures.quiet;
       sealed = c.put_commit.ensures.sealed records;
       steps = c.put_commit.ensures.steps records;
     } in
@@ -89,6 +90,7 @@ returns-clause-commit g c = λ changes prepared.
       head_is = c.put_commit.ensures.head;
       reads = c.put_commit.ensures.reads;
       told = c.put_commit.ensures.told;
+      quiet = c.put_commit.ensures.quiet;
       sealed = c.put_commit.ensures.sealed records;
       steps = c.put_commit.ensures.steps records;
     } in
