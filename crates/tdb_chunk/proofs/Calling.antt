@@ -43,7 +43,7 @@ use Rattle.tdb_chunk.specs.declared.store.Store as memory
 use Rattle.tdb_chunk.proofs.Committing.{allowed_on, next_known, next_step}
 use Rattle.tdb_chunk.proofs.Growing.{Counts, Steps, added_err, added_ok, none_added, put_added}
 use Rattle.tdb_chunk.proofs.Keeping.{put_keeps}
-use Rattle.tdb_chunk.proofs.Laying.{sealed_none}
+use Rattle.tdb_chunk.proofs.Placing.{sealed_none}
 use Rattle.tdb_overlay.proofs.PutLogs.{found_in_put, grows_all, longer_chain, follows_is, unread_by}
 use Rattle.tdb_chunk.proofs.Logs.{put_adds}
 use Rattle.std.proofs.lemmas.List.{append-nil}

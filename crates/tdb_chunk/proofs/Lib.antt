@@ -1,9 +1,11 @@
 pub mod Calling
 pub mod Committing
+pub mod Entries
 pub mod Growing
 pub mod Keeping
-pub mod Laying
 pub mod Logs
+pub mod Owners
+pub mod Placing
 pub mod Sealing
 pub mod Shown
 pub mod Standing

@@ -1,5 +1,6 @@
 pub mod Committing
 pub mod Known
+pub mod Laying
 pub mod LaidOut
 pub mod Formatting
 pub mod Names

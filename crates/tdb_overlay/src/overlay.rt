@@ -1,13 +1,14 @@
 //! The partitions as change lists tell them.
-ghost use Rattle.std.specs.Prelude.{◌≡◌, ◌<◌, IfOk, OnOk};
+ghost use Rattle.std.specs.Prelude.{◌≡◌, ◌<◌, ◌≤◌, IfOk, IfSome, OnOk};
 ghost use Rattle.std.specs.FinMap as map;
 ghost use Rattle.std.specs.Option.{option_map};
 ghost use Rattle.tdb_list.specs.ChangeList.{IsList};
 ghost use Rattle.tdb_list.specs.Entry.{IsEntry};
 ghost use Rattle.tdb_overlay.specs.Covering.{no_covers, suite_numbered, cover_written, cover_freed, cover_copied, cover_made, with_cover, noted, noted_all};
-ghost use Rattle.tdb_overlay.specs.Lookup.{leader_of, seen_in, seen_at};
+ghost use Rattle.tdb_overlay.specs.Lookup.{NamesKey, leader_of, seen_in, seen_at};
 ghost use Rattle.tdb_overlay.specs.Memory.{covered_of};
 
+use crate::kept::KeptPartition;
 use std::alloc::{AllocError, Global};
 use std::collections::BTreeMap;
 use std::marker::Model;
@@ -57,13 +58,6 @@ pub enum Seen {
 #[derive(Drop)]
 pub struct Overlay {
     partitions: BTreeMap<u32, KeptPartition>,
-}
-
-/// What is kept of a partition.
-#[derive(Drop)]
-pub(crate) struct KeptPartition {
-    leader: Leader,
-    edits: BTreeMap<u32, Option<Piece>>,
 }
 
 impl Model for Overlay {
@@ -147,7 +141,8 @@ impl Overlay {
     ///
     /// Where memory runs out some of them may have been taken in: the value is of no use then.
     pub fn note(&mut self, alloc: Global, count: u64, entries: &[Entry]) -> Result<(), AllocError>
-        requires { IsList entries.now }
+        requires list { IsList entries.now }
+        requires some { 1 ≤ count }
         ensures ok { OnOk result (self.new ≡ noted_all count self.old entries.now) }
     {
         for entry in entries {
@@ -168,7 +163,8 @@ impl Overlay {
 
     /// What is told of a partition, or `None` where it isn't there. It takes no memory.
     pub fn leader(&self, part: PartId) -> Option<Leader>
-        ensures { result ≡ option_map leader_of (map.get self.now part.0) }
+        ensures found { result ≡ option_map leader_of (map.get self.now part.0) }
+        ensures named { IfSome result NamesKey }
     {
         match self.partitions.get(&part.0) {
             Some(partition) => Some(partition.leader),
@@ -177,7 +173,8 @@ impl Overlay {
     }
 
     fn note_entry(&mut self, alloc: Global, count: u64, entry: &Entry) -> Result<(), AllocError>
-        requires { IsEntry entry.now }
+        requires entry { IsEntry entry.now }
+        requires some { 1 ≤ count }
         ensures { OnOk result (self.new ≡ noted count self.old entry.now) }
     {
         match entry.kind {
@@ -212,6 +209,8 @@ impl Overlay {
     }
 
     fn make(&mut self, alloc: Global, count: u64, entry: &Entry) -> Result<(), AllocError>
+        requires number { (1 ≤ entry.now.part) × (entry.now.part ≤ 4095) }
+        requires some { 1 ≤ count }
         ensures { OnOk result (self.new ≡ map.insert self.old entry.now.part (cover_made count entry.now)) }
     {
         let partition = KeptPartition {

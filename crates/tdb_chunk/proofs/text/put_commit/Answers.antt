@@ -6,7 +6,7 @@ use Rattle.tdb_mark.specs.CommitFormat.{IsCommitValue, IsInFormat}
 use Rattle.tdb_mark.specs.CommitText.{commit_key_of, commit_of, commit_text}
 use Rattle.tdb_mark.proofs.TextLemmas.{commit_of-commit_text}
 use Rattle.tdb_overlay.specs.SealedOnly.{IsTextInSlot}
-use Rattle.tdb_chunk.proofs.Laying.{put_sealed}
+use Rattle.tdb_chunk.proofs.Placing.{put_sealed}
 use Rattle.tdb_chunk.proofs.text.put_commit.Goals as goal
 
 pub returns-clause-sealed : goal.returns-clause-sealed
