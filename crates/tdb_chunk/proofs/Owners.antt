@@ -1,8 +1,10 @@
 -- What the records of a partition are sealed by, through changes.
-use Rattle.std.proofs.Common.{◌≡◌, ℕ, zero, suc, ◌+◌, ◌<◌, ◌≤◌, ◌==◌, Bool, true, false, cond, not, List, [], ◌∷◌, ◌++◌, length, get_or, take, Option, Some, None, is_some, refl, sym, ◌∙◌, ap, subst, arith}
-use Rattle.std.proofs.lemmas.Bool.{both_ways, eqb-true, ltb-false, not-false, cond-true, cond-false}
+use Rattle.std.proofs.Common.{◌≡◌, ℕ, zero, suc, ◌+◌, ◌<◌, ◌≤◌, ◌==◌, Bool, true, false, cond, not, List, [], ◌∷◌, ◌++◌, length, get_or, take, drop, Option, Some, None, is_some, refl, sym, ◌∙◌, ap, subst, arith}
+use Rattle.std.proofs.lemmas.Bool.{both_ways, eqb-true, leb-false, ltb-false, not-false, cond-true, cond-false}
+use Rattle.std.proofs.lemmas.List.{take-append-drop}
 use Rattle.std.proofs.lemmas.Option.{none-some, same_Some}
 use Rattle.std.specs.FinMap.{get}
+use Rattle.std.specs.Prelude.{IsSomeAnd}
 use Rattle.std.specs.Option.{option_map, option_or}
 use Rattle.tdb_base.specs.declared.names.PartId.{PartId}
 use Rattle.tdb_base.specs.declared.names.Rank.{Rank}
@@ -12,10 +14,10 @@ use Rattle.tdb_model.specs.Check.{check, is_no_number, is_there, is_absent, is_f
 use Rattle.tdb_model.specs.State.{State, Partition}
 use Rattle.tdb_model.specs.declared.change.Change.{Change}
 use Rattle.tdb_model.specs.declared.change.Change.TheVariants.{Write, Free, Make, Copy, Drop}
-use Rattle.tdb_model.proofs.CheckLemmas.{apply_all-next, passes_at}
+use Rattle.tdb_model.proofs.CheckLemmas.{apply_all-next, first_refusal-append, passes_at}
 use Rattle.tdb_model.proofs.MapLemmas.{get_inserted, get_removed}
 use Rattle.tdb_model.proofs.ParentLemmas.{HaveSameParents, apply-HaveSameParents, refusal-HaveSameParents}
-use Rattle.tdb_model.proofs.RangeLemmas.{or_false, passed}
+use Rattle.tdb_model.proofs.RangeLemmas.{option_or_none, or_false, passed}
 use Rattle.std.specs.Cmp.{nat_cmp_total, unsigned_ties, eq_by_cmp_equiv}
 use Rattle.tdb_base.specs.SuiteNumber.{suite_number}
 use Rattle.tdb_list.specs.declared.entry.Entry.{Entry}
@@ -117,8 +119,8 @@ write_allowed earlier state part rank bytes is =
     record {
       number = is_number part fails.0;
       sealing = there.0;
-      is_there = there.1.0;
-      parent = there.1.1;
+      is_there = there.1;
+      parent = there.2;
       rank_in_range = leb-false 262144 rank.0 fails.1.1.1.0;
       short = ltb-false 65536 (length bytes) fails.1.1.1.1.0;
     }
@@ -267,3 +269,30 @@ records_alike store count one other [] same = refl
 records_alike store count one other (change ∷ changes) same =
     ap (λ (ns : List ℕ). ns ++ records_of store count (apply count one change) changes) (record_one store one other change same)
     ∙ ap (λ (ns : List ℕ). record_of_change store other change ++ ns) (records_alike store count (apply count one change) (apply count other change) changes (apply-alike count one other change same))
+
+owned_found : (e : Entry) (found : Option Partition) (s : Sealing) → told found ≡ Some s → e.suite ≡ suite_number s.suite → e.home ≡ s.home → e.birth ≡ s.birth → IsOfPartition e found
+owned_found e None s is suite home birth = absurd (none-some s is)
+owned_found e (Some p) s is suite home birth =
+    let t : sealing_of p ≡ s = same_Some _ _ is in
+    record {
+      partition = p;
+      is_there = refl;
+      suite = suite ∙ ap (λ (x : Sealing). suite_number x.suite) (sym t);
+      home = home ∙ ap (λ (x : Sealing). x.home) (sym t);
+      birth = birth ∙ ap (λ (x : Sealing). x.birth) (sym t);
+    }
+
+-- an entry that says what its partition's records are sealed by
+pub owned_by : (state : State) (part : ℕ) (e : Entry) (s : Sealing) → sealing_in state part ≡ Some s → e.suite ≡ suite_number s.suite → e.home ≡ s.home → e.birth ≡ s.birth → IsOfPartition e (get state part)
+owned_by state part e s is suite home birth = owned_found e (get state part) s is suite home birth
+
+-- the owner of a partition whose chunk may be written
+pub the_owner : (state : State) (part : PartId) (rank : Rank) (bytes : List ℕ) (owner : Option Owner) → HasOwner part (sealing_in state part.0) owner → (is : IsWriteAllowed state part rank bytes) → IsSomeAnd owner (IsOwner part is.sealing)
+the_owner state part rank bytes owner has is =
+    let found : HasOwner part (Some is.sealing) owner = subst (λ (o : Option Sealing). HasOwner part o owner) is.is_there has in
+    found is.parent
+
+-- the first changes of some that pass, pass
+pub passes_before : (state : State) (changes : List Change) (i : ℕ) → check state changes ≡ None → check state (take i changes) ≡ None
+passes_before state changes i passes =
+    (option_or_none (check state (take i changes)) _ (sym (first_refusal-append [] state (take i changes) (drop i changes)) ∙ ap (check state) (take-append-drop i changes) ∙ passes)).0

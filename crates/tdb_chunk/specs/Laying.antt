@@ -110,7 +110,7 @@ pub record IsLaid (secret : List ℕ) (state : State) (keep : ℕ) (start : Segm
 pub record AreAllLaid (secret : List ℕ) (count : ℕ) (state : State) (keep : ℕ) (start : SegmentSpace) (changes : List Change) (entries : List Entry) (pieces : List Placed) (space : SegmentSpace) : Type 0 where
   pub each : AreChangesOf (in_pieces pieces) secret entries changes
   pub owned : AreOwned count state entries changes
-  pub entries : AllByRecursion IsEntry entries
+  pub grammar : AllByRecursion IsEntry entries
   pub values : AllByRecursion IsEntryValue entries
   pub fit : ArePlaced start keep entries space
   pub laid : LaidOut secret start space pieces

@@ -1,5 +1,6 @@
 //! The changes of a commit: an entry for each, and the records of its writes.
 ghost use Rattle.std.specs.Prelude.{◌≡◌, ◌<◌, ◌≤◌, ◌+◌, List, Err, IfOk, None, Some, length};
+ghost use Rattle.std.specs.List.{list_any};
 ghost use Rattle.tdb_append.specs.Placed.{placed};
 ghost use Rattle.tdb_base.specs.declared.piece.NoRoom as room;
 ghost use Rattle.tdb_model.specs.Check.{check};
@@ -66,11 +67,23 @@ fn needs_room(change: &Change) -> bool
     }
 }
 
+// Whether one of these changes does.
+fn one_needs_room(changes: &[Change]) -> bool
+    ensures { result ≡ list_any space.needs_room changes.now }
+{
+    for change in changes {
+        if needs_room(change) {
+            return true;
+        }
+    }
+    false
+}
+
 // How many segments stay free of a commit of these changes.
 fn kept_free(changes: &[Change]) -> u32
     ensures { result ≡ space.kept_free changes.now }
 {
-    if changes.iter().any(|change| needs_room(change)) {
+    if one_needs_room(changes) {
         4
     } else {
         2
