@@ -15,7 +15,7 @@ use Rattle.tdb_mark.specs.declared.commit.Commit.{Commit}
 use Rattle.tdb_mark.specs.CommitText.{commit_key_of, commit_of}
 use Rattle.sha2.specs.Sha256.{sha256}
 use Rattle.tdb_mark.specs.Unforged.{IsUnforged}
-use Rattle.tdb_base.specs.declared.suite.Suite.TheVariants.{Plain}
+use Rattle.tdb_base.specs.declared.suite.Suite.{Suite}
 use Rattle.tdb_model.specs.declared.change.Change.{Change}
 use Rattle.tdb_model.specs.declared.error.CommitError.{CommitError}
 use Rattle.tdb_model.specs.declared.error.CommitError.TheVariants.{Fault, Memory, NoRoom}
@@ -39,7 +39,7 @@ use Rattle.tdb_base.specs.declared.piece.NoRoom as room
 use Rattle.tdb_chunk.specs.declared.batch.LayError.{LayError}
 use Rattle.tdb_chunk.specs.declared.batch.LayError.TheVariants as lay
 use Rattle.tdb_chunk.specs.Text.{anchor_of, next_head, text_in_slot, text_of}
-use Rattle.tdb_chunk.specs.declared.store.Store as memory
+use Rattle.tdb_chunk.specs.declared.open_log.OpenLog.{OpenLog}
 use Rattle.tdb_chunk.proofs.Committing.{allowed_on, next_known, next_step}
 use Rattle.tdb_chunk.proofs.Growing.{Counts, Steps, added_err, added_ok, none_added, put_added}
 use Rattle.tdb_chunk.proofs.Keeping.{put_keeps}
@@ -58,7 +58,7 @@ ok_is_no_err : {T : Type 0} (x : T) → ◌≡◌ {A = Result T CommitError} (Ok
 ok_is_no_err x is = cc
 
 -- a commit that was refused, or wanted memory, before anything was written
-pub refused_call : {D : Type 0} (outside : D → Outside) (crash_states : D → CrashStates) (counts : Counts outside crash_states) (changes : List Change) (was now_is : memory.Store) (p : D) (e : CommitError) → IsSettled outside crash_states p → e ≢ Fault
+pub refused_call : {D : Type 0} (outside : D → Outside) (crash_states : D → CrashStates) (counts : Counts outside crash_states) (changes : List Change) (was now_is : OpenLog) (p : D) (e : CommitError) → IsSettled outside crash_states p → e ≢ Fault
     → (IsTrue (is_refusal e) → now_is ≡ was) → ((last : StoreState) → Knows (outside p) was last → IsTrue (is_refusal e) → commit_on (store_of was) last changes ≡ Err e)
     → IsKept was now_is → IsCommitCall {T = Unit {0}} outside crash_states changes was now_is p p (Err e)
 refused_call {D} outside crash_states counts changes was now_is p e settled isnt same refuses kept = record {
@@ -93,9 +93,9 @@ pub record PutCommit {D : Type 0} (outside : D → Outside) (crash_states : D �
   pub told : Told (outside old) (outside new) result
   pub sealed : OnlySealed secret (outside old) (outside new)
 
-module _ {D : Type 0} (outside : D → Outside) (crash_states : D → CrashStates) (counts : Counts outside crash_states) (was : memory.Store) (entries : List Entry) (before : List Placed) (behind : SegmentSpace) (changes : List Change) (old new : D)
-    (prepared : IsPrepared (outside old) was entries before behind changes) (list : IsList entries) (values : AllByRecursion IsEntryValue entries) (not_full : was.log.head.count ≢ was.log.head.base + 1000) (counts_on : was.log.head.count < 18446744073709551615)
-    (c : Commit) (ps : List Placed) (space : SegmentSpace) (next : IsNext was entries before behind c ps space) (at_head : IsAtHead (outside old) was) (settled : IsSettled outside crash_states old) where
+module _ {D : Type 0} (outside : D → Outside) (crash_states : D → CrashStates) (counts : Counts outside crash_states) (was : OpenLog) (keep : ℕ) (entries : List Entry) (before : List Placed) (behind : SegmentSpace) (changes : List Change) (old new : D)
+    (prepared : IsPrepared (outside old) was keep entries before behind changes) (list : IsList entries) (values : AllByRecursion IsEntryValue entries) (not_full : was.log.head.count ≢ was.log.head.base + 1000) (counts_on : was.log.head.count < 18446744073709551615)
+    (c : Commit) (ps : List Placed) (space : SegmentSpace) (next : IsNext was keep entries before behind c ps space) (at_head : IsAtHead (outside old) was) (settled : IsSettled outside crash_states old) where
   abbrev secret : List ℕ
   secret = was.keys
 
@@ -106,8 +106,8 @@ module _ {D : Type 0} (outside : D → Outside) (crash_states : D → CrashState
   steps before_h from is known = (
     (from.count + 1, changes) ∷ [],
     committed from changes space,
-    (refl, allowed_on (outside old) was entries before behind changes prepared list not_full counts_on from known c ps space next values),
-    next_step (outside old) was entries before behind changes prepared list not_full counts_on from known c ps space next values,
+    (refl, allowed_on (outside old) was keep entries before behind changes prepared list not_full counts_on from known c ps space next values),
+    next_step (outside old) was keep entries before behind changes prepared list not_full counts_on from known c ps space next values,
   )
 
   counted : c.count ≡ was.log.head.count + 1
@@ -135,16 +135,16 @@ module _ {D : Type 0} (outside : D → Outside) (crash_states : D → CrashState
       let based : from.base ≤ c.base = omega (arith, known.base, ap (λ (k : Commit). k.base) next.commit) in
       put_keeps store (outside old) (outside new) was.log.head.count ps put.puts.done put.puts.rest c before_h from is put.reads counted next.laid.in_segments next.laid.apart
       (subst (λ (s : SegmentSpace). All (IsFreshIn s) ps) known.space next.laid.fresh) put.puts.in_order (put.puts.wrote.trace tells) (sym known.count) intact was.log.head.mark.0 ((from.count + 1, changes) ∷ []) (committed from changes space) prev some
-      (next_step (outside old) was entries before behind changes prepared list not_full counts_on from known c ps space next values) based (at_count tells) (inl (at_head tells)) unforged (put.puts.anchor tells)
+      (next_step (outside old) was keep entries before behind changes prepared list not_full counts_on from known c ps space next values) based (at_count tells) (inl (at_head tells)) unforged (put.puts.anchor tells)
 
-  pub fault_call : (now_is : memory.Store) (x : Failed) → PutCommit outside crash_states secret was.log.head c ps old new (Err x) → IsKept was now_is → IsCommitCall {T = Unit {0}} outside crash_states changes was now_is old new (Err Fault)
+  pub fault_call : (now_is : OpenLog) (x : Failed) → PutCommit outside crash_states secret was.log.head c ps old new (Err x) → IsKept was now_is → IsCommitCall {T = Unit {0}} outside crash_states changes was now_is old new (Err Fault)
   fault_call now_is x put kept = record {
     added = λ tells. added_err outside crash_states (Knows (outside old) was) (OneCommit store changes) store old new (Err x) (Err Fault) refl (added_by (Err x) put tells);
     knows = λ tells. tt;
     whole = keeps_by (Err x) put;
     refused = λ last known refusal. absurd (false≢true refusal);
     allowed = λ last known. tt;
-    fault_allowed = λ is last known. (committed last changes space, allowed_on (outside old) was entries before behind changes prepared list not_full counts_on last known c ps space next values);
+    fault_allowed = λ is last known. (committed last changes space, allowed_on (outside old) was keep entries before behind changes prepared list not_full counts_on last known c ps space next values);
     kept = kept;
     store_stays = λ refusal. absurd (false≢true refusal);
     platform_stays = λ isnt. absurd (isnt refl);
@@ -160,7 +160,7 @@ module _ {D : Type 0} (outside : D → Outside) (crash_states : D → CrashState
     sealed = put.sealed;
   }
 
-  module _ (now_is : memory.Store) (x : Unit {0}) (head : Head) (put : PutCommit outside crash_states secret was.log.head c ps old new (Ok head)) (keys : now_is.keys ≡ was.keys) (head_is : now_is.log.head ≡ head) (segments : now_is.log.segments ≡ space)
+  module _ (now_is : OpenLog) (x : Unit {0}) (head : Head) (put : PutCommit outside crash_states secret was.log.head c ps old new (Ok head)) (keys : now_is.keys ≡ was.keys) (suite : now_is.log.suite ≡ was.log.suite) (head_is : now_is.log.head ≡ head) (segments : now_is.log.segments ≡ space)
       (overlay : now_is.log.overlay ≡ noted_all c.count was.log.overlay entries) where
     head_next : now_is.log.head ≡ next_head secret was.log.head c
     head_next = head_is ∙ put.head_is
@@ -169,7 +169,9 @@ module _ {D : Type 0} (outside : D → Outside) (crash_states : D → CrashState
     whole = put.puts.in_order ∙ ap (λ (l : List Placed). put.puts.done ++ l) (put.puts.complete refl) ∙ append-nil put.puts.done
 
     same_as : store_of now_is ≡ store
-    same_as = ap (λ (s : List ℕ). let y : Store = record { secret = s; suite = Plain } in y) keys
+    same_as =
+        ap (λ (s : List ℕ). let y : Store = record { secret = s; suite = now_is.log.suite } in y) keys
+        ∙ ap (λ (s : Suite). let y : Store = record { secret = was.keys; suite = s } in y) suite
 
     -- the chain of the new anchor is one text longer
     chain_of : (outside new).trace ≡ with_all_written (outside old).trace (ps ++ text_in_slot secret c ∷ []) → (outside new).anchor ≡ (was.log.head.count + 1, sha256 (text_of secret c)) → IsUnforged (outside new).trace (commit_of (commit_key_of secret))
@@ -189,13 +191,13 @@ module _ {D : Type 0} (outside : D → Outside) (crash_states : D → CrashState
         let at : (outside new).anchor ≡ (was.log.head.count + 1, sha256 (text_of secret c)) = put.advanced tells ∙ ap (λ (n : ℕ). (n, sha256 (text_of secret c))) counted in
         record {
           to = committed from changes space;
-          allowed = allowed_on (outside old) was entries before behind changes prepared list not_full counts_on from known c ps space next values;
+          allowed = allowed_on (outside old) was keep entries before behind changes prepared list not_full counts_on from known c ps space next values;
           log =
               put_adds store (outside old) (outside new) was.log.head.count was.log.head.mark.0 (text_in_slot secret c) ps put.puts.done put.puts.rest c before_h ((from.count + 1, changes) ∷ []) from (committed from changes space) (outside new).anchor
-              put.reads counted prev some (next_step (outside old) was entries before behind changes prepared list not_full counts_on from known c ps space next values) put.puts.in_order wrote (at_count tells) (inl (at_head tells))
+              put.reads counted prev some (next_step (outside old) was keep entries before behind changes prepared list not_full counts_on from known c ps space next values) put.puts.in_order wrote (at_count tells) (inl (at_head tells))
               (put.puts.complete refl) at unforged is;
           knows =
-              next_known (outside old) was entries before behind changes prepared list not_full counts_on from known c ps space next values (outside new) is.chain before_h
+              next_known (outside old) was keep entries before behind changes prepared list not_full counts_on from known c ps space next values (outside new) is.chain before_h
               (subst (Extends (outside old).trace) (sym wrote) (grows_all (outside old).trace put.puts.done)) finer is.ends is.tells (chain_of all at unforged is.chain (at_head tells) is.ends) now_is same_as (ap (λ (h : Head). h.count) head_next) (ap (λ (h : Head). h.base) head_next) segments overlay;
         }
 
@@ -205,7 +207,7 @@ module _ {D : Type 0} (outside : D → Outside) (crash_states : D → CrashState
       knows = longer;
       whole = keeps_by (Ok head) put;
       refused = λ last known. tt;
-      allowed = λ last known. (committed last changes space, allowed_on (outside old) was entries before behind changes prepared list not_full counts_on last known c ps space next values);
+      allowed = λ last known. (committed last changes space, allowed_on (outside old) was keep entries before behind changes prepared list not_full counts_on last known c ps space next values);
       fault_allowed = λ is. absurd (ok_is_no_err x is);
       kept = tt;
       store_stays = tt;

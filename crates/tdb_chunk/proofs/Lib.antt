@@ -6,6 +6,7 @@ pub mod Keeping
 pub mod Logs
 pub mod Owners
 pub mod Placing
+pub mod Prepared
 pub mod Sealing
 pub mod Shown
 pub mod Standing

@@ -1,4 +1,4 @@
--- What a commit does to a store in memory and to the platform.
+-- What a commit does to an open log and to the platform.
 use Rattle.std.specs.Prelude.{◌≡◌, ◌≢◌, ◌+◌, ◌≤◌, ℕ, Bool, true, false, List, [], ◌∷◌, ◌++◌, Result, Ok, Err, IsTrue, IfErr, OnOk}
 use Rattle.tdb_base.specs.Trace.{Extends}
 use Rattle.tdb_mark.specs.CommitText.{commit_key_of, commit_of}
@@ -16,7 +16,7 @@ use Rattle.tdb_overlay.specs.Log.{IsLog}
 use Rattle.tdb_overlay.specs.SealedOnly.{OnlySealed}
 use Rattle.tdb_overlay.specs.StoreState.{StoreState, commit_on}
 use Rattle.tdb_chunk.specs.Known.{IsAtHead, Knows, store_of}
-use Rattle.tdb_chunk.specs.declared.store.Store as memory
+use Rattle.tdb_chunk.specs.declared.open_log.OpenLog.{OpenLog}
 
 -- which last states of a log are known
 abbrev pub Known : Type 1
@@ -55,18 +55,18 @@ is_early (NoRoom refusal) = false
 is_early _ = true
 
 -- After Ok the log is one commit longer, and the store knows the state behind it.
-pub record IsLonger (old new : Outside) (was now : memory.Store) (changes : List Change) (before : History) (from : StoreState) : Type 0 where
+pub record IsLonger (old new : Outside) (was now : OpenLog) (changes : List Change) (before : History) (from : StoreState) : Type 0 where
   pub to : StoreState
   pub allowed : commit_on (store_of was) from changes ≡ Ok to
   pub log : IsLog new.trace.written (store_of was) new.anchor (before ++ (from.count + 1, changes) ∷ []) to
   pub knows : Knows new now to
 
--- the keys, the head and the segments are as they were
-abbrev pub IsKept : memory.Store → memory.Store → Type 0
-IsKept was now = (now.keys ≡ was.keys) × (now.log.head ≡ was.log.head) × (now.log.segments ≡ was.log.segments)
+-- the keys, the head, the segments and the suite are as they were
+abbrev pub IsKept : OpenLog → OpenLog → Type 0
+IsKept was now = (now.keys ≡ was.keys) × (now.log.head ≡ was.log.head) × (now.log.segments ≡ was.log.segments) × (now.log.suite ≡ was.log.suite)
 
 -- Of a commit of changes: what it adds to the log, what the store knows afterwards, and what each refusal means.
-pub record IsCommitCall {D T : Type 0} (outside : D → Outside) (crash_states : D → CrashStates) (changes : List Change) (was now_is : memory.Store) (old new : D) (result : Result T CommitError) : Type 0 where
+pub record IsCommitCall {D T : Type 0} (outside : D → Outside) (crash_states : D → CrashStates) (changes : List Change) (was now_is : OpenLog) (old new : D) (result : Result T CommitError) : Type 0 where
   -- it adds one commit of these changes to the log that the store knows
   pub added : IsTrue (outside old).tells → AddedFrom outside crash_states (Knows (outside old) was) (store_of was) old new (OneCommit (store_of was) changes) result
   pub knows : IsTrue (outside old).tells → OnOk result (IsUnforged (outside new).trace (commit_of (commit_key_of was.keys)) → (before : History) (from : StoreState)
@@ -79,7 +79,7 @@ pub record IsCommitCall {D T : Type 0} (outside : D → Outside) (crash_states :
   pub refused : (last : StoreState) → Knows (outside old) was last → IfErr result (λ e. IsTrue (is_refusal e) → commit_on (store_of was) last changes ≡ Err e)
   pub allowed : (last : StoreState) → Knows (outside old) was last → OnOk result (IsAllowedOn (store_of was) last changes)
   pub fault_allowed : result ≡ Err Fault → (last : StoreState) → Knows (outside old) was last → IsAllowedOn (store_of was) last changes
-  -- what failed leaves the keys, the head and the segments; what was refused leaves all
+  -- what failed leaves the keys, the head, the segments and the suite; what was refused leaves all
   pub kept : IfErr result (λ e. IsKept was now_is)
   pub store_stays : IfErr result (λ e. IsTrue (is_refusal e) → now_is ≡ was)
   pub platform_stays : IfErr result (λ e. e ≢ Fault → new ≡ old)

@@ -19,8 +19,8 @@ ghost use Rattle.tdb_chunk.specs.declared.batch.LayError.TheVariants as lay;
 use crate::batch::{Batch, LayError};
 use crate::chunk::Chunk;
 use crate::commit::{KEPT_FREE, refused};
+use crate::open_log::OpenLog;
 use crate::records::seal_chunk;
-use crate::store::Store;
 use std::alloc::Global;
 use tdb_base::{Digest, PartId, Piece, Place, Rank, Suite};
 use tdb_list::Entry;
@@ -94,7 +94,7 @@ fn takes_writes(leader: &Leader) -> bool
         && 1 <= leader.birth
 }
 
-impl Store {
+impl OpenLog {
     /// What is told of a partition, or `None` where it isn't there. It takes no memory.
     pub fn leader(&self, part: PartId) -> Option<Leader>
         ensures { result ≡ option_map leader_of (map.get self.now.log.overlay part.0) }
@@ -141,7 +141,13 @@ impl Store {
             Ok(()) => {
                 let batch = Batch::new(alloc, self.log.segments);
                 self.log.segments.known();
-                self.commit_entries(alloc, platform, &[make_part(1), make_part(2)], batch)
+                self.commit_entries(
+                    alloc,
+                    platform,
+                    &[make_part(1), make_part(2)],
+                    batch,
+                    KEPT_FREE,
+                )
             }
             Err(refusal) => Err(refusal),
         }
@@ -174,7 +180,7 @@ impl Store {
         match self.may_follow(chunks.len()) {
             Ok(()) => match self.lay_writes(alloc, part, chunks) {
                 Ok(Writes { entries, batch }) => {
-                    self.commit_entries(alloc, platform, &entries, batch)
+                    self.commit_entries(alloc, platform, &entries, batch, KEPT_FREE)
                 }
                 Err(error) => Err(refused(error)),
             },

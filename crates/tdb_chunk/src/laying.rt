@@ -19,7 +19,7 @@ ghost use Rattle.tdb_chunk.specs.declared.batch.LayError.TheVariants as lay;
 
 use crate::batch::{Batch, LayError};
 use crate::owner::Owner;
-use crate::store::Store;
+use crate::open_log::OpenLog;
 use std::alloc::{AllocError, Global};
 use tdb_base::{Bytes, Digest, PartId, Piece, Place, Rank};
 use tdb_list::Entry;
@@ -179,7 +179,7 @@ fn told_owner(overlay: &Overlay, part: PartId) -> Option<Owner>
     }
 }
 
-impl Store {
+impl OpenLog {
     /// Seals the changes of a commit that passes, and places their records.
     pub(crate) fn lay_changes(
         &self,

@@ -11,15 +11,15 @@ mod chunk;
 mod commit;
 mod format;
 mod laying;
+mod open_log;
 mod opening;
 mod owner;
 mod reading;
 mod records;
-mod store;
 #[cfg(test)]
 mod tests;
 mod text;
 
 pub use chunk::Chunk;
 pub use format::StoreError;
-pub use store::Store;
+pub use open_log::OpenLog;

@@ -17,7 +17,7 @@ ghost use Rattle.tdb_overlay.specs.StoreState.{StoreState};
 ghost use Rattle.tdb_chunk.specs.Known.{Knows};
 ghost use Rattle.tdb_chunk.specs.Reading.{HasReadPiece, HasReadWhole, IsDamageOf, IsDamagedChunk, IsLate, name_of};
 
-use crate::store::Store;
+use crate::open_log::OpenLog;
 use std::alloc::Global;
 use tdb_base::{PartId, Piece, Rank};
 use tdb_model::ReadError;
@@ -27,7 +27,7 @@ use tdb_seal::{Name, SealError, read_record};
 
 const CHUNK: u32 = 1;
 
-impl Store {
+impl OpenLog {
     /// Reads a chunk: its bytes are those of the log's state, whatever the device shows.
     pub fn read<P: Platform>(
         &self,

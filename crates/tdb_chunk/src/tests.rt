@@ -1,9 +1,9 @@
 //! The first path of a store, against the marks that an independent model of the formats gives. A mark depends on every
 //! byte that was written.
-use crate::{Chunk, Store};
+use crate::{Chunk, OpenLog};
 use std::alloc::Global;
 use std::test::Fail;
-use tdb_base::{Bytes, PartId, Rank};
+use tdb_base::{Bytes, PartId, Rank, Suite};
 use tdb_model::{CommitError, ReadError};
 use tdb_overlay::Keys;
 use tdb_platform::{MemoryPlatform, Platform};
@@ -32,7 +32,7 @@ fn the_first_path_has_the_marks_of_the_model(rt: HostRuntime) -> Result<(), Fail
     let mut platform = device(alloc, &[])?;
     let (count, _) = platform.anchor()?;
     assert_eq!(rt; count, 0);
-    let mut store = Store::format(alloc, &mut platform, Keys::new(&[0; 32]), 16)?;
+    let mut store = OpenLog::format(alloc, &mut platform, Keys::new(&[0; 32]), Suite::Plain, 16)?;
     assert_eq!(rt; platform.anchor()?.1.as_slice(), MARKS[0]);
     assert!(rt; store.may_make());
     if store.may_make() {
@@ -62,7 +62,13 @@ fn a_largest_chunk_is_written_and_read(rt: HostRuntime) -> Result<(), Fail> {
     let mut platform = device(alloc, &[])?;
     let (count, _) = platform.anchor()?;
     assert_eq!(rt; count, 0);
-    let mut store = Store::format(alloc, &mut platform, Keys::new(&[0; 32]), 4_096)?;
+    let mut store = OpenLog::format(
+        alloc,
+        &mut platform,
+        Keys::new(&[0; 32]),
+        Suite::Plain,
+        4_096,
+    )?;
     assert!(rt; store.may_make());
     store.make_partitions(alloc, &mut platform)?;
     let largest = Chunk {

@@ -20,6 +20,7 @@ pub loop-text-init : goal.loop-text-init
 loop-text-init g c = record {
   reads = reads_nothing g.P.Platform.outside g.P.Platform.crash_states g.met.P.Platform.counts c.args.platform.now;
   head = refl;
+  suite = refl;
   done = ([], refl);
   behind = c.requires.commits;
   rest = λ t whole given rest ends. rest;
@@ -49,6 +50,7 @@ loop-text-preserved g c =
     record {
       reads = reads_then outside states g.met.P.Platform.counts old mid new first c.replay_list.ensures.reads;
       head = c.in_ok-replay_list.ensures.head ∙ so_far.head;
+      suite = c.in_ok-replay_list.ensures.suite ∙ so_far.suite;
       done = (so_far.done.0 ++ text ∷ [], so_far.done.1 ∙ ap (λ (l : List Commit). so_far.done.0 ++ l) popped ∙ sym (append_assoc so_far.done.0 (text ∷ []) (reverse left)));
       behind = behind.1;
       rest = λ t whole given rest ends.
@@ -122,6 +124,9 @@ returns-clause-reads g c = c.loop-text.invariant.reads
 
 pub returns-clause-head : goal.returns-clause-head
 returns-clause-head g c = c.loop-text.invariant.head
+
+pub returns-clause-suite : goal.returns-clause-suite
+returns-clause-suite g c = c.loop-text.invariant.suite
 
 pub returns-clause-replayed : goal.returns-clause-replayed
 returns-clause-replayed g c t whole given rest ends =
