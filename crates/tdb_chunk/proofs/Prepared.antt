@@ -3,6 +3,7 @@ use Rattle.std.proofs.Common.{◌≡◌, ◌≢◌, ◌+◌, ◌*◌, ◌<◌, �
 use Rattle.std.proofs.lemmas.Bool.{cond-false, le-ltb}
 use Rattle.std.proofs.lemmas.Option.{none-some, same_Some}
 use Rattle.std.specs.Option.{option_or}
+use Rattle.std.specs.Prelude.{IfErr}
 use Rattle.tdb_append.specs.Placed.{Placed}
 use Rattle.tdb_base.specs.declared.piece.Place.{Place}
 use Rattle.tdb_base.specs.declared.piece.NoRoom as room
@@ -41,26 +42,27 @@ AllRefuse (test ∷ tests) = IsTrue (is_refusal test.1) × AllRefuse tests
 
 one_refuses : (tests : List (Bool × CommitError)) (e : CommitError) → AllRefuse tests → first_that_holds tests ≡ Some e → IsTrue (is_refusal e)
 one_refuses [] e all is = absurd (none-some e is)
-one_refuses (test ∷ tests) e all is = by test.0 is
+one_refuses (test ∷ tests) e all is = by test.0 (λ later. one_refuses tests e all.1 later) is
   where
-    by : (b : Bool) → cond b (Some test.1) (first_that_holds tests) ≡ Some e → IsTrue (is_refusal e)
-    by true is = subst (λ (x : CommitError). IsTrue (is_refusal x)) (same_Some test.1 e is) all.0
-    by false is = one_refuses tests e all.1 is
+    by : (b : Bool) → (first_that_holds tests ≡ Some e → IsTrue (is_refusal e)) → cond b (Some test.1) (first_that_holds tests) ≡ Some e → IsTrue (is_refusal e)
+    by true later is = subst (λ (x : CommitError). IsTrue (is_refusal x)) (same_Some test.1 e is) all.0
+    by false later is = later is
 
 tests_refuse : (earlier : List Change) (state : State) (change : Change) → AllRefuse (tests_of earlier state change)
-tests_refuse earlier state (Write part rank bytes) = (refl, refl, refl, refl, refl, tt)
-tests_refuse earlier state (Free part rank) = (refl, refl, refl, refl, tt)
-tests_refuse earlier state (Make part suite) = (refl, refl, refl, tt)
-tests_refuse earlier state (Copy from to) = (refl, refl, refl, refl, tt)
-tests_refuse earlier state (Drop part) = (refl, refl, refl, tt)
+tests_refuse earlier state (Write part rank bytes) = (refl, (refl, (refl, (refl, (refl, tt)))))
+tests_refuse earlier state (Free part rank) = (refl, (refl, (refl, (refl, tt))))
+tests_refuse earlier state (Make part suite) = (refl, (refl, (refl, tt)))
+tests_refuse earlier state (Copy from to) = (refl, (refl, (refl, (refl, tt))))
+tests_refuse earlier state (Drop part) = (refl, (refl, (refl, tt)))
 
 first_refuses : (earlier : List Change) (state : State) (changes : List Change) (e : CommitError) → first_refusal earlier state changes ≡ Some e → IsTrue (is_refusal e)
 first_refuses earlier state [] e is = absurd (none-some e is)
-first_refuses earlier state (change ∷ later) e is = by (refusal earlier state change) refl is
+first_refuses earlier state (change ∷ later) e is = by (refusal earlier state change) refl (λ then. first_refuses (earlier ++ change ∷ []) (apply 0 state change) later e then) is
   where
-    by : (o : Option CommitError) → refusal earlier state change ≡ o → option_or o (first_refusal (earlier ++ change ∷ []) (apply 0 state change) later) ≡ Some e → IsTrue (is_refusal e)
-    by (Some x) here is = one_refuses (tests_of earlier state change) e (tests_refuse earlier state change) (here ∙ is)
-    by None here is = first_refuses (earlier ++ change ∷ []) (apply 0 state change) later e is
+    by : (o : Option CommitError) → refusal earlier state change ≡ o → (first_refusal (earlier ++ change ∷ []) (apply 0 state change) later ≡ Some e → IsTrue (is_refusal e))
+        → option_or o (first_refusal (earlier ++ change ∷ []) (apply 0 state change) later) ≡ Some e → IsTrue (is_refusal e)
+    by (Some x) here then is = one_refuses (tests_of earlier state change) e (tests_refuse earlier state change) (here ∙ is)
+    by None here then is = then is
 
 pub check_refuses : (state : State) (changes : List Change) (e : CommitError) → check state changes ≡ Some e → IsTrue (is_refusal e)
 check_refuses state changes e is = first_refuses [] state changes e is
@@ -123,3 +125,9 @@ pub all_list : (was : OpenLog) (count : ℕ) (state : State) (keep : ℕ) (start
 all_list was count state keep start changes entries pieces space are some few =
     let same : length entries ≡ length changes = as_many (in_pieces pieces) (λ piece bytes found. found.2) (store_of was) was.keys entries changes are.each in
     record { least = omega (arith, same, some); most = omega (arith, same, few); each = are.grammar }
+
+-- what is refused on each state that the log may stand for
+pub refused_for : {T : Type 0} (was : OpenLog) (changes : List Change) (r : Result T CommitError) → ((o : Outside) (last : StoreState) → Knows o was last → IfErr r (λ e. commit_on (store_of was) last changes ≡ Err e))
+    → IfErr r (λ e. (o : Outside) (last : StoreState) → Knows o was last → commit_on (store_of was) last changes ≡ Err e)
+refused_for was changes (Ok x) each = tt
+refused_for was changes (Err e) each = each

@@ -117,11 +117,13 @@ impl OpenLog {
     {
         match self.may_commit_all(changes) {
             Ok(()) => match self.lay_changes(alloc, changes) {
-                Ok(LaidChanges {
-                    entries,
-                    batch,
-                    keep,
-                }) => self.commit_entries(alloc, platform, &entries, batch, keep),
+                Ok(
+                    LaidChanges {
+                        entries,
+                        batch,
+                        keep,
+                    },
+                ) => self.commit_entries(alloc, platform, &entries, batch, keep),
                 Err(error) => Err(refused(error)),
             },
             Err(refusal) => Err(refusal),

@@ -18,8 +18,8 @@ ghost use Rattle.tdb_chunk.specs.Laying.{AreAllLaid, HasKey, HasOwner, IsLaid, I
 ghost use Rattle.tdb_chunk.specs.declared.batch.LayError.TheVariants as lay;
 
 use crate::batch::{Batch, LayError};
-use crate::owner::Owner;
 use crate::open_log::OpenLog;
+use crate::owner::Owner;
 use std::alloc::{AllocError, Global};
 use tdb_base::{Bytes, Digest, PartId, Piece, Place, Rank};
 use tdb_list::Entry;
@@ -83,11 +83,7 @@ fn one_needs_room(changes: &[Change]) -> bool
 fn kept_free(changes: &[Change]) -> u32
     ensures { result ≡ space.kept_free changes.now }
 {
-    if one_needs_room(changes) {
-        4
-    } else {
-        2
-    }
+    if one_needs_room(changes) { 4 } else { 2 }
 }
 
 // The owner of chunks of a partition behind a change, by the one before it.

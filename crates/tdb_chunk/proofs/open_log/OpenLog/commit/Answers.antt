@@ -31,9 +31,11 @@ returns-in-Ok-lay_changes g c =
     let o = g.P.Platform.outside c.args.platform.now in
     let laid = c.in-Ok-lay_changes.field-0 in
     let changes = c.args.changes.now in
-    c.commit_entries.ensures.commit changes
-    (subst (λ (entries : List Entry). IsPrepared o was laid.keep entries (placed laid.batch.pieces.items) laid.batch.segments changes) (sym c.deref.ensures.value)
-    (all_prepared o was changes laid.keep laid.entries.items (placed laid.batch.pieces.items) laid.batch.segments c.in-Ok-lay_changes.ensures.keep c.in-Ok.ensures.ok.0 c.in-Ok-lay_changes.ensures.laid))
+    record {
+      commit = c.commit_entries.ensures.commit changes
+          (subst (λ (entries : List Entry). IsPrepared o was laid.keep entries (placed laid.batch.pieces.items) laid.batch.segments changes) (sym c.deref.ensures.value)
+          (all_prepared o was changes laid.keep laid.entries.items (placed laid.batch.pieces.items) laid.batch.segments c.in-Ok-lay_changes.ensures.keep c.in-Ok.ensures.ok.0 c.in-Ok-lay_changes.ensures.laid));
+    }
 
 pub returns-in-Err-lay_changes : goal.returns-in-Err-lay_changes
 returns-in-Err-lay_changes g c =
@@ -41,18 +43,22 @@ returns-in-Err-lay_changes g c =
     let o = g.P.Platform.outside c.args.platform.now in
     let changes = c.args.changes.now in
     let ok = c.in-Ok.ensures.ok in
-    refused_call g.P.Platform.outside g.P.Platform.crash_states g.met.P.Platform.counts changes was was c.args.platform.now c.refused.result c.requires.settled
-    (refused_is_no_fault c.in-Err-lay_changes.error c.refused.result c.refused.ensures.answer) (λ refusal. refl)
-    (λ last known refusal.
-    if_no_room (store_of was) last changes c.in-Err-lay_changes.error c.refused.result c.refused.ensures.answer refusal
-    (λ r is. record_refused o was changes last known ok.2 ok.3 ok.1 ok.0 r (c.in-Err-lay_changes.ensures.refused r (ap (λ (e : LayError). Err e) is))))
-    (refl, refl, refl)
+    record {
+      commit = refused_call g.P.Platform.outside g.P.Platform.crash_states g.met.P.Platform.counts changes was was c.args.platform.now c.refused.result c.requires.settled
+          (refused_is_no_fault c.in-Err-lay_changes.error c.refused.result c.refused.ensures.answer) (λ refusal. refl)
+          (λ last known refusal.
+          if_no_room (store_of was) last changes c.in-Err-lay_changes.error c.refused.result c.refused.ensures.answer refusal
+          (λ r is. record_refused o was changes last known ok.2 ok.3 ok.1 ok.0 r (c.in-Err-lay_changes.ensures.refused r (ap (λ (e : LayError). Err e) is))))
+          (refl, refl, refl, refl);
+    }
 
 pub returns-in-Err : goal.returns-in-Err
 returns-in-Err g c =
     let was = c.args.self.now in
     let o = g.P.Platform.outside c.args.platform.now in
     let changes = c.args.changes.now in
-    refused_call g.P.Platform.outside g.P.Platform.crash_states g.met.P.Platform.counts changes was was c.args.platform.now c.in-Err.refusal c.requires.settled (refusal_is_no_fault c.in-Err.refusal c.in-Err.ensures.refusal) (λ refusal. refl)
-    (λ last known refusal. c.in-Err.ensures.refused o last known)
-    (refl, refl, refl)
+    record {
+      commit = refused_call g.P.Platform.outside g.P.Platform.crash_states g.met.P.Platform.counts changes was was c.args.platform.now c.in-Err.refusal c.requires.settled (refusal_is_no_fault c.in-Err.refusal c.in-Err.ensures.refusal) (λ refusal. refl)
+          (λ last known refusal. c.in-Err.ensures.refused o last known)
+          (refl, refl, refl, refl);
+    }
