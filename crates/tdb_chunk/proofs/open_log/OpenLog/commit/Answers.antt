@@ -1,4 +1,4 @@
-use Rattle.std.proofs.Common.{◌≡◌, ◌+◌, List, Err, refl, sym, ap, subst, arith}
+use Rattle.std.proofs.Common.{◌+◌, List, Err, refl, sym, ap, subst}
 use Rattle.std.specs.List.{AllByRecursion}
 use Rattle.tdb_append.specs.Placed.{placed}
 use Rattle.tdb_list.specs.declared.entry.Entry.{Entry}
