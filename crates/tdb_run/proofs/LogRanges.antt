@@ -1,18 +1,14 @@
 -- What every log keeps: its state is in range.
-use Rattle.std.proofs.Common.{◌≡◌, ◌⊎◌, inl, inr, ⊎_elim, ℕ, ◌+◌, Bool, true, false, cond, List, [], ◌∷◌, Option, Some, None, Ok, Err, Result, refl, sym, ◌∙◌, ap, subst, arith}
-use Rattle.tdb_base.specs.declared.piece.NoRoom.{NoRoom}
-use Rattle.tdb_base.specs.declared.piece.Place.{Place}
+use Rattle.std.proofs.Common.{◌≡◌, inl, inr, ◌+◌, Bool, true, false, cond, List, [], ◌∷◌, Option, Some, None, sym, ap, subst, arith}
 use Rattle.tdb_mark.specs.declared.commit.Commit.{Commit}
-use Rattle.tdb_model.specs.declared.change.Change.{Change}
 use Rattle.tdb_model.specs.declared.error.CommitError.{CommitError}
 use Rattle.tdb_model.specs.Apply.{History}
 use Rattle.tdb_model.specs.Check.{check}
 use Rattle.tdb_model.specs.InRange.{IsInRange}
 use Rattle.tdb_model.proofs.RangeLemmas.{apply_all_in_range}
-use Rattle.tdb_seg.specs.SegmentSpace.{SegmentSpace, fits, place_in, placed, next_place, then_fit, then_place, with_bytes}
 use Rattle.tdb_overlay.specs.Found.{Finds, Store}
 use Rattle.tdb_overlay.specs.Log.{Adds, IsLogOf}
-use Rattle.tdb_overlay.specs.StoreState.{StoreState, commit_fits, commit_lengths, kept_free}
+use Rattle.tdb_overlay.specs.StoreState.{StoreState}
 use Rattle.tdb_overlay.proofs.LogLaws.{allows}
 
 -- the test of the number passed
