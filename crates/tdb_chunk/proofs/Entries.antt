@@ -1,7 +1,5 @@
 -- Entries that are laid one after another.
-use Rattle.std.proofs.Common.{◌≡◌, inl, inr, ℕ, zero, suc, ◌+◌, ◌*◌, ◌/◌, ◌<◌, ◌≤◌, ◌==◌, Bool, true, false, cond, List, [], ◌∷◌, ◌++◌, map, length, Option, Some, None, Result, Ok, Err, replicate, refl, sym, ◌∙◌, ap, subst, arith}
-use Rattle.std.specs.List.{AllByRecursion}
-use Rattle.std.specs.FinMap.{get}
+use Rattle.std.proofs.Common.{◌≡◌, inl, inr, ℕ, ◌<◌, ◌≤◌, ◌==◌, Bool, true, false, cond, List, [], ◌∷◌, ◌++◌, map, length, Some, Result, Ok, Err, replicate, refl, sym, ◌∙◌, ap, subst, arith}
 use Rattle.std.proofs.lemmas.List.{append-nil, append_assoc, map-append}
 use Rattle.sha2.specs.Sha256.{sha256}
 use Rattle.tdb_append.specs.Placed.{Placed}
@@ -18,7 +16,7 @@ use Rattle.tdb_list.specs.declared.entry.Entry.{Entry}
 use Rattle.tdb_list.specs.Entry.{IsCopy, IsDrop, IsEntry, IsEntryValue, IsFree, IsMake, IsNoPiece, IsWrite}
 use Rattle.tdb_list.proofs.ListSpelling.{push_all}
 use Rattle.tdb_model.specs.declared.change.Change.{Change}
-use Rattle.tdb_model.specs.declared.change.Change.TheVariants.{Write, Free, Make, Copy, Drop}
+use Rattle.tdb_model.specs.declared.change.Change.TheVariants.{Write}
 use Rattle.tdb_model.specs.Apply.{apply, apply_all}
 use Rattle.tdb_model.specs.State.{State}
 use Rattle.tdb_seal.specs.SealedRecord.{IsSealedRecord}
@@ -31,11 +29,11 @@ use Rattle.tdb_overlay.specs.Log.{AreOwned, IsOwned}
 use Rattle.tdb_overlay.specs.StoreState.{record_length, record_of_change, records_of}
 use Rattle.tdb_overlay.proofs.Lengths.{records_are}
 use Rattle.tdb_overlay.proofs.LogLaws.{changes_stay}
-use Rattle.tdb_chunk.specs.LaidOut.{IsOneOf, LaidOut, in_pieces}
-use Rattle.tdb_chunk.specs.Laying.{AreAllLaid, ArePlaced, HasKey, IsLaid, IsOwner, Sealing, entry_with, entry_without, name_in, sealing_in}
+use Rattle.tdb_chunk.specs.LaidOut.{LaidOut, in_pieces}
+use Rattle.tdb_chunk.specs.Laying.{AreAllLaid, HasKey, IsLaid, IsOwner, Sealing, entry_with, entry_without, name_in, sealing_in}
 use Rattle.tdb_chunk.specs.declared.owner.Owner.{Owner}
 use Rattle.tdb_chunk.proofs.Committing.{last_found, more_found}
-use Rattle.tdb_chunk.proofs.Owners.{IsWriteAllowed, owned_by, suite_there}
+use Rattle.tdb_chunk.proofs.Owners.{owned_by, suite_there}
 
 -- a record is no longer than a segment
 pub record_least : (suite : Suite) (n : ℕ) → 1 ≤ record_length suite n

@@ -18,6 +18,7 @@ ghost use Rattle.tdb_chunk.specs.Laying.{AreAllLaid, HasKey, HasOwner, IsLaid, I
 ghost use Rattle.tdb_chunk.specs.declared.batch.LayError.TheVariants as lay;
 
 use crate::batch::{Batch, LayError};
+use crate::commit::KEPT_FREE;
 use crate::open_log::OpenLog;
 use crate::owner::Owner;
 use std::alloc::{AllocError, Global};
@@ -26,6 +27,9 @@ use tdb_list::Entry;
 use tdb_model::Change;
 use tdb_overlay::{Keys, Overlay};
 use tdb_seal::{Name, seal_record};
+
+/// How many segments stay free of a commit that only frees and drops.
+const KEPT_BY_FREES: u32 = 2;
 
 // The kinds of the entries.
 const WRITE: u32 = 1;
@@ -83,7 +87,11 @@ fn one_needs_room(changes: &[Change]) -> bool
 fn kept_free(changes: &[Change]) -> u32
     ensures { result ≡ space.kept_free changes.now }
 {
-    if one_needs_room(changes) { 4 } else { 2 }
+    if one_needs_room(changes) {
+        KEPT_FREE
+    } else {
+        KEPT_BY_FREES
+    }
 }
 
 // The owner of chunks of a partition behind a change, by the one before it.

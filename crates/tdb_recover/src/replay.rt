@@ -54,7 +54,7 @@ fn replay_list<P: Platform>(
     log: &mut Recovered,
     text: &Commit,
 ) -> Result<(), OpenError>
-    requires some { 1 ≤ text.now.count }
+    requires { 1 ≤ text.now.count }
     ensures reads { OnlyReads P.outside P.crash_states platform.old platform.new }
     ensures head { OnOk result (log.new.head ≡ log.old.head) }
     ensures suite { OnOk result (log.new.suite ≡ log.old.suite) }

@@ -6,7 +6,7 @@ use Rattle.tdb_list.specs.Entry.{IsEntryValue}
 use Rattle.tdb_model.specs.Check.{refusal as refusal_of}
 use Rattle.tdb_model.specs.State.{State}
 use Rattle.tdb_model.specs.declared.change.Change.{Change}
-use Rattle.tdb_model.specs.declared.change.Change.TheVariants.{Write, Free, Make, Copy, Drop}
+use Rattle.tdb_model.specs.declared.change.Change.TheVariants.{Free, Make, Copy, Drop}
 use Rattle.tdb_base.specs.SuiteNumber.{suite_number}
 use Rattle.tdb_seg.specs.SegmentSpace.{fits}
 use Rattle.tdb_overlay.specs.StoreState.{record_of_change}

@@ -1,5 +1,5 @@
-use Rattle.std.proofs.Common.{◌≡◌, ◌+◌, ◌<◌, ℕ, List, [], ◌∷◌, ◌++◌, Err, Result, length, take, drop, sym, ◌∙◌, ap, subst, add-one, suc}
-use Rattle.std.proofs.lemmas.List.{take_all, take_more, take-append-drop}
+use Rattle.std.proofs.Common.{◌≡◌, ◌+◌, ℕ, List, [], ◌∷◌, ◌++◌, Err, Result, take, drop, sym, ◌∙◌, ap, subst, add-one, suc}
+use Rattle.std.proofs.lemmas.List.{take_more, take-append-drop}
 use Rattle.std.proofs.Math.Seq.{drop-cons}
 use Rattle.tdb_append.specs.Placed.{Placed, placed}
 use Rattle.tdb_list.specs.declared.entry.Entry.{Entry}

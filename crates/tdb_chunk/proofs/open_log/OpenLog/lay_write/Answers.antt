@@ -1,12 +1,11 @@
-use Rattle.std.proofs.Common.{◌≡◌, List, sym, ap, subst, rules}
+use Rattle.std.proofs.Common.{◌≡◌, sym, ap, subst, rules}
 use Rattle.tdb_append.specs.Placed.{placed}
 use Rattle.tdb_list.specs.declared.entry.Entry.{Entry}
 use Rattle.tdb_list.specs.Entry.{IsEntryValue}
-use Rattle.tdb_base.specs.declared.piece.NoRoom as room
-use Rattle.std.proofs.Common.{ℕ, Err, Result, length, ◌∙◌}
+use Rattle.std.proofs.Common.{ℕ, Err, Result}
 use Rattle.tdb_model.specs.declared.change.Change.TheVariants.{Write}
 use Rattle.tdb_seg.specs.SegmentSpace.{place_in}
-use Rattle.tdb_chunk.specs.Laying.{IsLaid, entry_with}
+use Rattle.tdb_chunk.specs.Laying.{IsLaid}
 use Rattle.tdb_chunk.specs.declared.batch.LayError.{LayError}
 use Rattle.tdb_chunk.specs.declared.batch.LayError.TheVariants.{NoRoom}
 use Rattle.tdb_chunk.proofs.Entries.{write_laid}

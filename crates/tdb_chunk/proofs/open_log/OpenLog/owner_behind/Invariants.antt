@@ -1,4 +1,4 @@
-use Rattle.std.proofs.Common.{◌+◌, take}
+use Rattle.std.proofs.Common.{take}
 use Rattle.tdb_chunk.specs.Laying.{HasOwner, sealing_in, told_behind}
 use Rattle.tdb_chunk.proofs.open_log.OpenLog.owner_behind.Given as goal
 
