@@ -15,13 +15,14 @@ use Rattle.tdb_mark.specs.declared.commit.Commit.{Commit}
 use Rattle.tdb_mark.specs.CommitText.{commit_key_of, commit_of}
 use Rattle.sha2.specs.Sha256.{sha256}
 use Rattle.tdb_mark.specs.Unforged.{IsUnforged}
-use Rattle.tdb_base.specs.declared.suite.Suite.TheVariants.{Plain}
+use Rattle.tdb_base.specs.declared.suite.Suite.{Suite}
 use Rattle.tdb_model.specs.declared.change.Change.{Change}
 use Rattle.tdb_model.specs.declared.error.CommitError.{CommitError}
 use Rattle.tdb_model.specs.declared.error.CommitError.TheVariants.{Fault, Memory, NoRoom}
 use Rattle.tdb_model.specs.Apply.{History}
 use Rattle.tdb_platform.specs.Outside.{Anchor, Outside, Told}
-use Rattle.tdb_platform.specs.CrashStates.{CrashStates, now}
+use Rattle.tdb_platform.specs.CrashStates.{CrashStates, LeavesOnly, Pairs, now}
+use Rattle.tdb_platform.proofs.Moments.{started}
 use Rattle.tdb_seg.specs.SegmentSpace.{SegmentSpace}
 use Rattle.tdb_overlay.specs.Covering.{noted_all}
 use Rattle.tdb_overlay.specs.Found.{Store}
@@ -31,21 +32,25 @@ use Rattle.tdb_overlay.specs.Log.{IsLog}
 use Rattle.tdb_overlay.specs.SealedOnly.{OnlySealed}
 use Rattle.tdb_overlay.specs.StoreState.{StoreState, commit_on, committed}
 use Rattle.tdb_mark.specs.CommitChain.{commit_chain}
-use Rattle.tdb_chunk.specs.Committing.{AddedFrom, IsCommitCall, IsKept, IsLonger, is_refusal}
+use Rattle.tdb_chunk.specs.Committing.{AddedFrom, IsCommitCall, IsLonger, is_refusal}
 use Rattle.tdb_chunk.specs.Known.{IsAtHead, Knows, store_of}
 use Rattle.tdb_chunk.specs.LaidOut.{IsFreshIn}
 use Rattle.tdb_chunk.specs.Preparing.{IsNext, IsPrepared, refused_by}
+use Rattle.tdb_chunk.specs.Stepping.{IsPutStep, HasKnownLog}
+use Rattle.tdb_overlay.specs.Sound.{IsSound}
 use Rattle.tdb_base.specs.declared.piece.NoRoom as room
 use Rattle.tdb_chunk.specs.declared.batch.LayError.{LayError}
 use Rattle.tdb_chunk.specs.declared.batch.LayError.TheVariants as lay
 use Rattle.tdb_chunk.specs.Text.{anchor_of, next_head, text_in_slot, text_of}
-use Rattle.tdb_chunk.specs.declared.store.Store as memory
+use Rattle.tdb_chunk.specs.declared.open_log.OpenLog.{OpenLog}
 use Rattle.tdb_chunk.proofs.Committing.{allowed_on, next_known, next_step}
 use Rattle.tdb_chunk.proofs.Growing.{Counts, Steps, added_err, added_ok, none_added, put_added}
 use Rattle.tdb_chunk.proofs.Keeping.{put_keeps}
-use Rattle.tdb_chunk.proofs.Laying.{sealed_none}
+use Rattle.tdb_chunk.proofs.Placing.{sealed_none}
 use Rattle.tdb_overlay.proofs.PutLogs.{found_in_put, grows_all, longer_chain, follows_is, unread_by}
 use Rattle.tdb_chunk.proofs.Logs.{put_adds}
+use Rattle.tdb_chunk.proofs.Stepping.{commit_goes_on, none_step, step_err, step_ok}
+use Rattle.tdb_overlay.specs.Ran.{RanStep}
 use Rattle.std.proofs.lemmas.List.{append-nil}
 
 no_fault : (e : CommitError) → ◌≡◌ {A = CommitError} e Fault → IsTrue (is_refusal e) → ⊥
@@ -57,11 +62,16 @@ fault_of e is = cc
 ok_is_no_err : {T : Type 0} (x : T) → ◌≡◌ {A = Result T CommitError} (Ok x) (Err Fault) → ⊥
 ok_is_no_err x is = cc
 
+-- what a stop may leave, with nothing said of it
+any_time : {D : Type 0} (outside : D → Outside) (crash_states : D → CrashStates) (old new : D) {Q : Pairs} → LeavesOnly outside crash_states old new Q
+    → LeavesOnly outside crash_states old new (λ i a. Unit {0})
+any_time outside crash_states old new m = record { later = m.later; each = λ i a left. tt; before = m.before; keeps = m.keeps }
+
 -- a commit that was refused, or wanted memory, before anything was written
-pub refused_call : {D : Type 0} (outside : D → Outside) (crash_states : D → CrashStates) (counts : Counts outside crash_states) (changes : List Change) (was now_is : memory.Store) (p : D) (e : CommitError) → IsSettled outside crash_states p → e ≢ Fault
-    → (IsTrue (is_refusal e) → now_is ≡ was) → ((last : StoreState) → Knows (outside p) was last → IsTrue (is_refusal e) → commit_on (store_of was) last changes ≡ Err e)
-    → IsKept was now_is → IsCommitCall {T = Unit {0}} outside crash_states changes was now_is p p (Err e)
-refused_call {D} outside crash_states counts changes was now_is p e settled isnt same refuses kept = record {
+pub refused_call : {D : Type 0} (outside : D → Outside) (crash_states : D → CrashStates) (counts : Counts outside crash_states) (changes : List Change) (was now_is : OpenLog) (p : D) (e : CommitError) → IsSettled outside crash_states p → e ≢ Fault
+    → now_is ≡ was → ((last : StoreState) → Knows (outside p) was last → IsTrue (is_refusal e) → commit_on (store_of was) last changes ≡ Err e)
+    → IsCommitCall {T = Unit {0}} outside crash_states changes was now_is p p (Err e)
+refused_call {D} outside crash_states counts changes was now_is p e settled isnt kept refuses = record {
   added = λ tells. none_added {T = Unit {0}} {E = CommitError} outside crash_states counts (Knows (outside p) was) (OneCommit (store_of was) changes) (store_of was) p (Err e) tells settled refl;
   knows = λ tells. tt;
   whole = λ tells unforged before from is known intact. intact;
@@ -69,7 +79,6 @@ refused_call {D} outside crash_states counts changes was now_is p e settled isnt
   allowed = λ last known. tt;
   fault_allowed = λ is. absurd (isnt (fault_of {T = Unit {0}} e is));
   kept = kept;
-  store_stays = same;
   platform_stays = λ is. refl;
   at_head = tt;
   same_store = tt;
@@ -79,8 +88,11 @@ refused_call {D} outside crash_states counts changes was now_is p e settled isnt
   tells = refl;
   honest = refl;
   faults = omega arith;
+  moments = started outside crash_states counts p (λ i a. Unit {0}) (λ i a left. tt);
+  quiet = tt;
   unread = λ tells. refl;
   sealed = λ tells. sealed_none was.keys (outside p).trace;
+  steps = λ has. none_step outside crash_states (store_of was) ((was.log.head.count + 1, changes) ∷ []) p e;
 }
 
 -- what the put of a commit says
@@ -91,11 +103,13 @@ pub record PutCommit {D : Type 0} (outside : D → Outside) (crash_states : D �
   pub head_is : IfOk result (λ next. next ≡ next_head secret head c)
   pub reads : commit_of (commit_key_of secret) (text_of secret c) ≡ Some c
   pub told : Told (outside old) (outside new) result
+  pub quiet : OnOk result ((outside new).faults ≡ (outside old).faults)
   pub sealed : OnlySealed secret (outside old) (outside new)
+  pub steps : IsPutStep outside crash_states secret c ps old new result
 
-module _ {D : Type 0} (outside : D → Outside) (crash_states : D → CrashStates) (counts : Counts outside crash_states) (was : memory.Store) (entries : List Entry) (before : List Placed) (behind : SegmentSpace) (changes : List Change) (old new : D)
-    (prepared : IsPrepared (outside old) was entries before behind changes) (list : IsList entries) (values : AllByRecursion IsEntryValue entries) (not_full : was.log.head.count ≢ was.log.head.base + 1000) (counts_on : was.log.head.count < 18446744073709551615)
-    (c : Commit) (ps : List Placed) (space : SegmentSpace) (next : IsNext was entries before behind c ps space) (at_head : IsAtHead (outside old) was) (settled : IsSettled outside crash_states old) where
+module _ {D : Type 0} (outside : D → Outside) (crash_states : D → CrashStates) (counts : Counts outside crash_states) (was : OpenLog) (keep : ℕ) (entries : List Entry) (before : List Placed) (behind : SegmentSpace) (changes : List Change) (old new : D)
+    (prepared : IsPrepared (outside old) was keep entries before behind changes) (list : IsList entries) (values : AllByRecursion IsEntryValue entries) (not_full : was.log.head.count ≢ was.log.head.base + 1000) (counts_on : was.log.head.count < 18446744073709551615)
+    (c : Commit) (ps : List Placed) (space : SegmentSpace) (next : IsNext was keep entries before behind c ps space) (at_head : IsAtHead (outside old) was) (settled : IsSettled outside crash_states old) where
   abbrev secret : List ℕ
   secret = was.keys
 
@@ -106,8 +120,8 @@ module _ {D : Type 0} (outside : D → Outside) (crash_states : D → CrashState
   steps before_h from is known = (
     (from.count + 1, changes) ∷ [],
     committed from changes space,
-    (refl, allowed_on (outside old) was entries before behind changes prepared list not_full counts_on from known c ps space next values),
-    next_step (outside old) was entries before behind changes prepared list not_full counts_on from known c ps space next values,
+    (refl, allowed_on (outside old) was keep entries before behind changes prepared list not_full counts_on from known c ps space next values),
+    next_step (outside old) was keep entries before behind changes prepared list not_full counts_on from known c ps space next values,
   )
 
   counted : c.count ≡ was.log.head.count + 1
@@ -135,18 +149,24 @@ module _ {D : Type 0} (outside : D → Outside) (crash_states : D → CrashState
       let based : from.base ≤ c.base = omega (arith, known.base, ap (λ (k : Commit). k.base) next.commit) in
       put_keeps store (outside old) (outside new) was.log.head.count ps put.puts.done put.puts.rest c before_h from is put.reads counted next.laid.in_segments next.laid.apart
       (subst (λ (s : SegmentSpace). All (IsFreshIn s) ps) known.space next.laid.fresh) put.puts.in_order (put.puts.wrote.trace tells) (sym known.count) intact was.log.head.mark.0 ((from.count + 1, changes) ∷ []) (committed from changes space) prev some
-      (next_step (outside old) was entries before behind changes prepared list not_full counts_on from known c ps space next values) based (at_count tells) (inl (at_head tells)) unforged (put.puts.anchor tells)
+      (next_step (outside old) was keep entries before behind changes prepared list not_full counts_on from known c ps space next values) based (at_count tells) (inl (at_head tells)) unforged (put.puts.anchor tells)
 
-  pub fault_call : (now_is : memory.Store) (x : Failed) → PutCommit outside crash_states secret was.log.head c ps old new (Err x) → IsKept was now_is → IsCommitCall {T = Unit {0}} outside crash_states changes was now_is old new (Err Fault)
+  step_by : (result : Result Head Failed) → PutCommit outside crash_states secret was.log.head c ps old new result
+      → (IsSound secret (outside old) → HasKnownLog (outside old) was)
+      → RanStep outside crash_states store ((was.log.head.count + 1, changes) ∷ []) old new result
+  step_by result put has = put.steps was.log.suite ((was.log.head.count + 1, changes) ∷ []) settled
+      (λ sound. commit_goes_on (outside old) was keep entries before behind changes prepared list values not_full counts_on c ps space next
+      at_head sound.tells (has sound))
+
+  pub fault_call : (now_is : OpenLog) (x : Failed) → PutCommit outside crash_states secret was.log.head c ps old new (Err x) → now_is ≡ was → IsCommitCall {T = Unit {0}} outside crash_states changes was now_is old new (Err Fault)
   fault_call now_is x put kept = record {
     added = λ tells. added_err outside crash_states (Knows (outside old) was) (OneCommit store changes) store old new (Err x) (Err Fault) refl (added_by (Err x) put tells);
     knows = λ tells. tt;
     whole = keeps_by (Err x) put;
     refused = λ last known refusal. absurd (false≢true refusal);
     allowed = λ last known. tt;
-    fault_allowed = λ is last known. (committed last changes space, allowed_on (outside old) was entries before behind changes prepared list not_full counts_on last known c ps space next values);
+    fault_allowed = λ is last known. (committed last changes space, allowed_on (outside old) was keep entries before behind changes prepared list not_full counts_on last known c ps space next values);
     kept = kept;
-    store_stays = λ refusal. absurd (false≢true refusal);
     platform_stays = λ isnt. absurd (isnt refl);
     at_head = tt;
     same_store = tt;
@@ -156,11 +176,15 @@ module _ {D : Type 0} (outside : D → Outside) (crash_states : D → CrashState
     tells = put.told.tells;
     honest = put.told.honest;
     faults = put.told.no_fewer_faults;
+    moments = any_time outside crash_states old new put.puts.any_moment;
+    quiet = tt;
     unread = λ tells. unread_by (outside old).trace (outside new).trace put.puts.done (put.puts.wrote.trace tells);
     sealed = put.sealed;
+    steps = λ has. step_err outside crash_states store ((was.log.head.count + 1, changes) ∷ []) old new (Err x) x Fault refl
+        (step_by (Err x) put has);
   }
 
-  module _ (now_is : memory.Store) (x : Unit {0}) (head : Head) (put : PutCommit outside crash_states secret was.log.head c ps old new (Ok head)) (keys : now_is.keys ≡ was.keys) (head_is : now_is.log.head ≡ head) (segments : now_is.log.segments ≡ space)
+  module _ (now_is : OpenLog) (x : Unit {0}) (head : Head) (put : PutCommit outside crash_states secret was.log.head c ps old new (Ok head)) (keys : now_is.keys ≡ was.keys) (suite : now_is.log.suite ≡ was.log.suite) (head_is : now_is.log.head ≡ head) (segments : now_is.log.segments ≡ space)
       (overlay : now_is.log.overlay ≡ noted_all c.count was.log.overlay entries) where
     head_next : now_is.log.head ≡ next_head secret was.log.head c
     head_next = head_is ∙ put.head_is
@@ -169,7 +193,9 @@ module _ {D : Type 0} (outside : D → Outside) (crash_states : D → CrashState
     whole = put.puts.in_order ∙ ap (λ (l : List Placed). put.puts.done ++ l) (put.puts.complete refl) ∙ append-nil put.puts.done
 
     same_as : store_of now_is ≡ store
-    same_as = ap (λ (s : List ℕ). let y : Store = record { secret = s; suite = Plain } in y) keys
+    same_as =
+        ap (λ (s : List ℕ). let y : Store = record { secret = s; suite = now_is.log.suite } in y) keys
+        ∙ ap (λ (s : Suite). let y : Store = record { secret = was.keys; suite = s } in y) suite
 
     -- the chain of the new anchor is one text longer
     chain_of : (outside new).trace ≡ with_all_written (outside old).trace (ps ++ text_in_slot secret c ∷ []) → (outside new).anchor ≡ (was.log.head.count + 1, sha256 (text_of secret c)) → IsUnforged (outside new).trace (commit_of (commit_key_of secret))
@@ -189,13 +215,13 @@ module _ {D : Type 0} (outside : D → Outside) (crash_states : D → CrashState
         let at : (outside new).anchor ≡ (was.log.head.count + 1, sha256 (text_of secret c)) = put.advanced tells ∙ ap (λ (n : ℕ). (n, sha256 (text_of secret c))) counted in
         record {
           to = committed from changes space;
-          allowed = allowed_on (outside old) was entries before behind changes prepared list not_full counts_on from known c ps space next values;
+          allowed = allowed_on (outside old) was keep entries before behind changes prepared list not_full counts_on from known c ps space next values;
           log =
               put_adds store (outside old) (outside new) was.log.head.count was.log.head.mark.0 (text_in_slot secret c) ps put.puts.done put.puts.rest c before_h ((from.count + 1, changes) ∷ []) from (committed from changes space) (outside new).anchor
-              put.reads counted prev some (next_step (outside old) was entries before behind changes prepared list not_full counts_on from known c ps space next values) put.puts.in_order wrote (at_count tells) (inl (at_head tells))
+              put.reads counted prev some (next_step (outside old) was keep entries before behind changes prepared list not_full counts_on from known c ps space next values) put.puts.in_order wrote (at_count tells) (inl (at_head tells))
               (put.puts.complete refl) at unforged is;
           knows =
-              next_known (outside old) was entries before behind changes prepared list not_full counts_on from known c ps space next values (outside new) is.chain before_h
+              next_known (outside old) was keep entries before behind changes prepared list not_full counts_on from known c ps space next values (outside new) is.chain before_h
               (subst (Extends (outside old).trace) (sym wrote) (grows_all (outside old).trace put.puts.done)) finer is.ends is.tells (chain_of all at unforged is.chain (at_head tells) is.ends) now_is same_as (ap (λ (h : Head). h.count) head_next) (ap (λ (h : Head). h.base) head_next) segments overlay;
         }
 
@@ -205,10 +231,9 @@ module _ {D : Type 0} (outside : D → Outside) (crash_states : D → CrashState
       knows = longer;
       whole = keeps_by (Ok head) put;
       refused = λ last known. tt;
-      allowed = λ last known. (committed last changes space, allowed_on (outside old) was entries before behind changes prepared list not_full counts_on last known c ps space next values);
+      allowed = λ last known. (committed last changes space, allowed_on (outside old) was keep entries before behind changes prepared list not_full counts_on last known c ps space next values);
       fault_allowed = λ is. absurd (ok_is_no_err x is);
       kept = tt;
-      store_stays = tt;
       platform_stays = tt;
       at_head = λ tells. put.advanced (subst IsTrue put.told.tells tells) ∙ sym (ap (λ (h : Head). (h.count, h.mark.0)) head_next);
       same_store = same_as;
@@ -218,8 +243,12 @@ module _ {D : Type 0} (outside : D → Outside) (crash_states : D → CrashState
       tells = put.told.tells;
       honest = put.told.honest;
       faults = put.told.no_fewer_faults;
+      moments = any_time outside crash_states old new put.puts.any_moment;
+      quiet = put.quiet;
       unread = λ tells. unread_by (outside old).trace (outside new).trace put.puts.done (put.puts.wrote.trace tells);
       sealed = put.sealed;
+      steps = λ has. step_ok outside crash_states store ((was.log.head.count + 1, changes) ∷ []) old new (Ok head) head x refl
+          (step_by (Ok head) put has);
     }
 
 -- a record that got no place is no fault of the platform

@@ -8,7 +8,6 @@ use Rattle.tdb_append.specs.Placed.{Placed}
 use Rattle.tdb_base.specs.declared.piece.Piece.{Piece}
 use Rattle.tdb_base.specs.declared.piece.Place.{Place}
 use Rattle.tdb_base.specs.declared.piece.NoRoom as room
-use Rattle.tdb_base.specs.declared.suite.Suite.TheVariants.{Plain}
 use Rattle.tdb_base.specs.Trace.{Extends}
 use Rattle.tdb_list.specs.declared.entry.Entry.{Entry}
 use Rattle.tdb_list.specs.ChangeList.{IsList, list_bytes}
@@ -43,7 +42,8 @@ use Rattle.tdb_chunk.specs.Known.{Knows, store_of}
 use Rattle.tdb_chunk.specs.LaidOut.{IsOneOf, LaidOut, in_pieces}
 use Rattle.tdb_chunk.specs.Preparing.{IsNext, IsPrepared}
 use Rattle.tdb_chunk.specs.Text.{next_commit}
-use Rattle.tdb_chunk.specs.declared.store.Store as memory
+use Rattle.tdb_chunk.specs.declared.open_log.OpenLog.{OpenLog}
+use Rattle.tdb_chunk.proofs.Sealing.{record_fits}
 use Rattle.tdb_overlay.proofs.LogLaws.{changes_stay, list_stays}
 use Rattle.tdb_overlay.proofs.PutLogs.{in_later_trace}
 
@@ -88,12 +88,12 @@ module _ (store : Store) (last : StoreState) (changes : List Change) where
   on_placed passes not_full not_end =
       ap (where_passed store last changes) passes ∙ cond-false _ _ _ (ne_eqb last.count (last.base + 1000) not_full) ∙ cond-false _ _ _ (ne_eqb last.count 18446744073709551615 not_end)
 
-  pub fits_is : kept_free changes ≡ 4 → commit_fits store last changes ≡ fits last.space (commit_lengths store (last.count + 1) last.chunks changes) 4
+  pub fits_is : (keep : ℕ) → kept_free changes ≡ keep → commit_fits store last changes ≡ fits last.space (commit_lengths store (last.count + 1) last.chunks changes) keep
   unfolding commit_fits
-  fits_is room = ap (fits last.space (commit_lengths store (last.count + 1) last.chunks changes)) room
+  fits_is keep room = ap (fits last.space (commit_lengths store (last.count + 1) last.chunks changes)) room
 
 -- Of a store that knows the last state.
-module _ (o : Outside) (was : memory.Store) (not_full : was.log.head.count ≢ was.log.head.base + 1000) (counts_on : was.log.head.count < 18446744073709551615) (last : StoreState) (known : Knows o was last) (changes : List Change) (needs : kept_free changes ≡ 4) (passes : check_commit last.chunks changes ≡ None) where
+module _ (o : Outside) (was : OpenLog) (not_full : was.log.head.count ≢ was.log.head.base + 1000) (counts_on : was.log.head.count < 18446744073709551615) (last : StoreState) (known : Knows o was last) (changes : List Change) (keep : ℕ) (needs : kept_free changes ≡ keep) (passes : check_commit last.chunks changes ≡ None) where
   goes_on : last.count ≢ last.base + 1000
   goes_on full = not_full (omega (arith, known.count, known.base, full))
 
@@ -101,22 +101,22 @@ module _ (o : Outside) (was : memory.Store) (not_full : was.log.head.count ≢ w
   no_end end = absurd (omega (arith, known.count, counts_on, end))
 
   -- no room for its records or its list
-  pub no_room : (refusal : room.NoRoom) → fits was.log.segments (commit_lengths (store_of was) (last.count + 1) last.chunks changes) 4 ≡ Err refusal → commit_on (store_of was) last changes ≡ Err (NoRoom refusal)
+  pub no_room : (refusal : room.NoRoom) → fits was.log.segments (commit_lengths (store_of was) (last.count + 1) last.chunks changes) keep ≡ Err refusal → commit_on (store_of was) last changes ≡ Err (NoRoom refusal)
   no_room refusal refuses =
       on_placed (store_of was) last changes passes goes_on no_end
       ∙ ap (where_placed last changes)
-      (fits_is (store_of was) last changes needs
-      ∙ subst (λ (s : SegmentSpace). fits s (commit_lengths (store_of was) (last.count + 1) last.chunks changes) 4 ≡ Err refusal) known.space refuses)
+      (fits_is (store_of was) last changes keep needs
+      ∙ subst (λ (s : SegmentSpace). fits s (commit_lengths (store_of was) (last.count + 1) last.chunks changes) keep ≡ Err refusal) known.space refuses)
 
-  pub with_room : (places : List Place) (space : SegmentSpace) → fits was.log.segments (commit_lengths (store_of was) (last.count + 1) last.chunks changes) 4 ≡ Ok (places, space)
+  pub with_room : (places : List Place) (space : SegmentSpace) → fits was.log.segments (commit_lengths (store_of was) (last.count + 1) last.chunks changes) keep ≡ Ok (places, space)
       → (commit_fits (store_of was) last changes ≡ Ok (places, space)) × (commit_on (store_of was) last changes ≡ Ok (committed last changes space))
   with_room places space fit =
       let fits_so : commit_fits (store_of was) last changes ≡ Ok (places, space) =
-      fits_is (store_of was) last changes needs ∙ subst (λ (s : SegmentSpace). fits s (commit_lengths (store_of was) (last.count + 1) last.chunks changes) 4 ≡ Ok (places, space)) known.space fit in
+      fits_is (store_of was) last changes keep needs ∙ subst (λ (s : SegmentSpace). fits s (commit_lengths (store_of was) (last.count + 1) last.chunks changes) keep ≡ Ok (places, space)) known.space fit in
       (fits_so, on_placed (store_of was) last changes passes goes_on no_end ∙ ap (where_placed last changes) fits_so)
 
 -- Entries whose records are placed, on a state that the store knows.
-module _ (o : Outside) (was : memory.Store) (entries : List Entry) (before : List Placed) (behind : SegmentSpace) (changes : List Change) (prepared : IsPrepared o was entries before behind changes) (list : IsList entries)
+module _ (o : Outside) (was : OpenLog) (keep : ℕ) (entries : List Entry) (before : List Placed) (behind : SegmentSpace) (changes : List Change) (prepared : IsPrepared o was keep entries before behind changes) (list : IsList entries)
     (not_full : was.log.head.count ≢ was.log.head.base + 1000) (counts_on : was.log.head.count < 18446744073709551615) (last : StoreState) (known : Knows o was last) where
   as_many_are : length entries ≡ length changes
   as_many_are = as_many (in_pieces before) (λ piece bytes found. found.2) (store_of was) was.keys entries changes prepared.each
@@ -127,26 +127,29 @@ module _ (o : Outside) (was : memory.Store) (entries : List Entry) (before : Lis
   lengths : map (λ (p : Piece). p.length) (named_records entries) ≡ records_of (store_of was) (last.count + 1) last.chunks changes
   lengths = records_are (in_pieces before) (λ piece bytes found. found.2) (store_of was) was.keys (last.count + 1) last.chunks entries changes prepared.each (prepared.allowed last known).owned
 
-  list_length : 64 + 72 * length entries ≡ record_length Plain (16 + 72 * length changes)
-  list_length = omega (arith, as_many_are)
+  abbrev length_of : ℕ → ℕ
+  length_of n = record_length was.log.suite (16 + 72 * n)
 
-  all_lengths : map (λ (p : Piece). p.length) (named_records entries) ++ (64 + 72 * length entries) ∷ [] ≡ commit_lengths (store_of was) (last.count + 1) last.chunks changes
+  list_length : length_of (length entries) ≡ length_of (length changes)
+  list_length = ap length_of as_many_are
+
+  all_lengths : map (λ (p : Piece). p.length) (named_records entries) ++ length_of (length entries) ∷ [] ≡ commit_lengths (store_of was) (last.count + 1) last.chunks changes
   all_lengths =
-      ap (λ (ns : List ℕ). ns ++ (64 + 72 * length entries) ∷ []) lengths ∙ ap (λ (n : ℕ). records_of (store_of was) (last.count + 1) last.chunks changes ++ n ∷ []) list_length
+      ap (λ (ns : List ℕ). ns ++ length_of (length entries) ∷ []) lengths ∙ ap (λ (n : ℕ). records_of (store_of was) (last.count + 1) last.chunks changes ++ n ∷ []) list_length
 
   -- there was no room for the list
-  pub list_refused : (refusal : room.NoRoom) → place_in behind (64 + 72 * length entries) 4 ≡ Err refusal → commit_on (store_of was) last changes ≡ Err (NoRoom refusal)
+  pub list_refused : (refusal : room.NoRoom) → place_in behind (length_of (length entries)) keep ≡ Err refusal → commit_on (store_of was) last changes ≡ Err (NoRoom refusal)
   list_refused refusal refuses =
-      no_room o was not_full counts_on last known changes prepared.room pass refusal
-      (ap (λ (ns : List ℕ). fits was.log.segments ns 4) (sym all_lengths)
-      ∙ fits-refused was.log.segments (map (λ (p : Piece). p.length) (named_records entries)) 4 (64 + 72 * length entries) [] (map (λ (p : Piece). p.place) (named_records entries)) behind refusal prepared.fit refuses)
+      no_room o was not_full counts_on last known changes keep prepared.room pass refusal
+      (ap (λ (ns : List ℕ). fits was.log.segments ns keep) (sym all_lengths)
+      ∙ fits-refused was.log.segments (map (λ (p : Piece). p.length) (named_records entries)) keep (length_of (length entries)) [] (map (λ (p : Piece). p.place) (named_records entries)) behind refusal prepared.fit refuses)
 
-  module _ (c : Commit) (ps : List Placed) (space : SegmentSpace) (next : IsNext was entries before behind c ps space) (values : AllByRecursion IsEntryValue entries) where
+  module _ (c : Commit) (ps : List Placed) (space : SegmentSpace) (next : IsNext was keep entries before behind c ps space) (values : AllByRecursion IsEntryValue entries) where
     abbrev new : Placed
     new = record { place = next.first.place.0; bytes = next.sealed }
 
     abbrev d : Commit
-    d = next_commit was.log.head 1 was.log.head.base was.log.segments.segments next.first
+    d = next_commit was.log.suite was.log.head 1 was.log.head.base was.log.segments.segments next.first
 
     each : AreChangesOf (in_pieces (before ++ new ∷ [])) was.keys entries changes
     each = changes_stay (in_pieces before) (in_pieces (before ++ new ∷ [])) (more_found before new) was.keys entries changes prepared.each
@@ -162,15 +165,15 @@ module _ (o : Outside) (was : memory.Store) (entries : List Entry) (before : Lis
       each = each;
     }
 
-    placed_at : fits was.log.segments (commit_lengths (store_of was) (last.count + 1) last.chunks changes) 4 ≡ Ok (map (λ (p : Piece). p.place) (named_records entries ++ next.first ∷ []), space)
+    placed_at : fits was.log.segments (commit_lengths (store_of was) (last.count + 1) last.chunks changes) keep ≡ Ok (map (λ (p : Piece). p.place) (named_records entries ++ next.first ∷ []), space)
     placed_at =
-        ap (λ (ns : List ℕ). fits was.log.segments ns 4) (sym (ap (λ (n : ℕ). map (λ (p : Piece). p.length) (named_records entries) ++ n ∷ []) next.long ∙ all_lengths))
-        ∙ fits-more was.log.segments (map (λ (p : Piece). p.length) (named_records entries)) 4 (length next.sealed) (map (λ (p : Piece). p.place) (named_records entries)) behind space next.first.place prepared.fit next.place
+        ap (λ (ns : List ℕ). fits was.log.segments ns keep) (sym (ap (λ (n : ℕ). map (λ (p : Piece). p.length) (named_records entries) ++ n ∷ []) next.long ∙ all_lengths))
+        ∙ fits-more was.log.segments (map (λ (p : Piece). p.length) (named_records entries)) keep (length next.sealed) (map (λ (p : Piece). p.place) (named_records entries)) behind space next.first.place prepared.fit next.place
         ∙ ap (λ (places : List Place). let r : Result (List Place × SegmentSpace) room.NoRoom = Ok (places, space) in r) (sym (map-append (λ (p : Piece). p.place) (named_records entries) (next.first ∷ [])))
 
     -- the commit may be made
     pub allowed_on : commit_on (store_of was) last changes ≡ Ok (committed last changes space)
-    allowed_on = (with_room o was not_full counts_on last known changes prepared.room pass _ space placed_at).1
+    allowed_on = (with_room o was not_full counts_on last known changes keep prepared.room pass _ space placed_at).1
 
     -- its text is a step from the state that is known
     pub next_step : IsStep (in_pieces ps) (store_of was) last c ((last.count + 1, changes) ∷ []) (committed last changes space)
@@ -184,10 +187,10 @@ module _ (o : Outside) (was : memory.Store) (entries : List Entry) (before : Lis
           allowed = allowed_on;
           list = has;
           owned = subst (λ (n : ℕ). AreOwned n last.chunks entries changes) (sym count) (prepared.allowed last known).owned;
-          placed = (with_room o was not_full counts_on last known changes prepared.room pass _ space placed_at).0;
+          placed = (with_room o was not_full counts_on last known changes keep prepared.room pass _ space placed_at).0;
         } in
         let step : IsStep (in_pieces (before ++ new ∷ [])) (store_of was) last d ((last.count + 1, changes) ∷ []) (committed last changes space) =
-        record { used = tt; suite = refl; adds = inr (changes, on, ap (λ (n : ℕ). (n, changes) ∷ []) (sym count)) } in
+        record { suite = refl; adds = inr (changes, on, ap (λ (n : ℕ). (n, changes) ∷ []) (sym count)) } in
         subst (λ (l : List Placed). IsStep (in_pieces l) (store_of was) last c ((last.count + 1, changes) ∷ []) (committed last changes space)) (sym next.pieces_are)
         (subst (λ (k : Commit). IsStep (in_pieces (before ++ new ∷ [])) (store_of was) last k ((last.count + 1, changes) ∷ []) (committed last changes space)) (sym next.commit) step)
 
@@ -220,7 +223,7 @@ module _ (o : Outside) (was : memory.Store) (entries : List Entry) (before : Lis
           (records_needed u.trace.written (store_of was) u.anchor (chain ++ d ∷ []) longer_by d chain [] changes refl (omega (arith, base, was.counts.base)) refl its_list) its_list.each
 
       -- what is noted of its list tells the state behind it
-      pub next_known : (now_is : memory.Store) → store_of now_is ≡ store_of was → now_is.log.head.count ≡ c.count → now_is.log.head.base ≡ was.log.head.base
+      pub next_known : (now_is : OpenLog) → store_of now_is ≡ store_of was → now_is.log.head.count ≡ c.count → now_is.log.head.base ≡ was.log.head.base
           → now_is.log.segments ≡ space → now_is.log.overlay ≡ noted_all c.count was.log.overlay entries → Knows u now_is (committed last changes space)
       next_known now_is same count base segments overlay =
           let f : Store → Finds = λ store. needed u.trace.written store u.anchor in
@@ -230,6 +233,7 @@ module _ (o : Outside) (was : memory.Store) (entries : List Entry) (before : Lis
           covering_noted (f (store_of was)) was.keys (last.count + 1) was.log.overlay last.chunks entries changes
           (covering_finer (needed o.trace.written (store_of was) o.anchor) (f (store_of was)) needed_still was.keys was.log.overlay last.chunks known.chunks) its_changes (prepared.allowed last known).owned in
           record {
+            suite = refl;
             count = count ∙ n;
             base = base ∙ known.base;
             space = segments;
@@ -239,15 +243,16 @@ module _ (o : Outside) (was : memory.Store) (entries : List Entry) (before : Lis
           }
 
 -- a list that is placed behind the records of a batch
-pub next_is : (was : memory.Store) (entries : List Entry) (before : List Placed) (behind : SegmentSpace) (sealed : List ℕ) (first : Piece) (ps : List Placed) (space : SegmentSpace) (segments : ℕ) → segments ≡ was.log.segments.segments
-    → length sealed ≡ 64 + 72 * length entries → first.length ≡ length sealed → first.digest.0 ≡ sha256 sealed → IsSealedRecord (system_key was.keys) list_name (list_bytes entries) sealed → place_in behind (length sealed) 4 ≡ Ok (first.place, space)
+pub next_is : (was : OpenLog) (keep : ℕ) (entries : List Entry) (before : List Placed) (behind : SegmentSpace) (sealed : List ℕ) (first : Piece) (ps : List Placed) (space : SegmentSpace) (segments : ℕ) → segments ≡ was.log.segments.segments
+    → length sealed ≡ record_length was.log.suite (16 + 72 * length entries) → first.length ≡ length sealed → first.digest.0 ≡ sha256 sealed → IsSealedRecord (system_key was.keys) (list_name was.log.suite) (list_bytes entries) sealed → place_in behind (length sealed) keep ≡ Ok (first.place, space)
     → ps ≡ before ++ record { place = first.place.0; bytes = sealed } ∷ [] → LaidOut was.keys was.log.segments behind before → was.log.head.count < 18446744073709551615 → IsList entries → LaidOut was.keys was.log.segments space ps
-    → IsNext was entries before behind (next_commit was.log.head 1 was.log.head.base segments first) ps space
-next_is was entries before behind sealed first ps space segments same long size digest opened place pieces_are laid counts_on list laid_now =
-    let one = place_in-is behind laid.valid (length sealed) 4 first.place space (omega (arith, long)) (omega (arith, long, list.most)) place in
+    → IsNext was keep entries before behind (next_commit was.log.suite was.log.head 1 was.log.head.base segments first) ps space
+next_is was keep entries before behind sealed first ps space segments same long size digest opened place pieces_are laid counts_on list laid_now =
+    let fits = record_fits was.log.suite (16 + 72 * length entries) (omega (arith, list.most)) in
+    let one = place_in-is behind laid.valid (length sealed) keep first.place space (omega (arith, long, fits.0)) (omega (arith, long, fits.1)) place in
     record {
       first = first;
-      commit = ap (λ (n : ℕ). next_commit was.log.head 1 was.log.head.base n first) same;
+      commit = ap (λ (n : ℕ). next_commit was.log.suite was.log.head 1 was.log.head.base n first) same;
       in_format = record {
         base = was.counts.some;
         kind = inl (refl, omega (arith, was.counts.base), refl);

@@ -33,7 +33,7 @@ use Rattle.tdb_overlay.proofs.Lengths.{trace_sized}
 use Rattle.tdb_overlay.proofs.LogLaws.{list_stays, trace_finds_one}
 use Rattle.tdb_overlay.proofs.Needing.{base_of-last}
 use Rattle.tdb_overlay.proofs.Unmistaken.{text_length}
-use Rattle.tdb_chunk.specs.Formatting.{IsStart, plain_store}
+use Rattle.tdb_chunk.specs.Formatting.{IsStart}
 use Rattle.tdb_chunk.specs.LaidOut.{IsFreshIn, in_pieces}
 use Rattle.tdb_chunk.specs.Text.{anchor_of, text_in_slot, text_of}
 use Rattle.tdb_overlay.proofs.Listed.{all_at}
@@ -216,15 +216,14 @@ module _ (store : Store) (old new : Outside) (n : ℕ) (ps done rest : List Plac
     put_keeps (inr next) = subst (λ (a : Anchor). IsIntact new.trace.written store a) (sym next.0) (goes_intact next.1)
 
 -- A put of the start of a log keeps what there was, which is nothing, and what the first text rests on stands.
-pub format_keeps : {D T E : Type 0} (outside : D → Outside) (crash_states : D → CrashStates) (secret : List ℕ) (head : Head) (segments : ℕ) (c : Commit) (ps : List Placed) (space : SegmentSpace) (old new : D)
-    (result : Result T E) → IsStart secret head segments c ps space → head.count ≡ 0 → head.mark.0 ≡ replicate 32 0 → commit_of (commit_key_of secret) (text_of secret c) ≡ Some c → (IsTrue (outside old).tells → (outside old).anchor.0 ≡ 0)
-    → Puts outside crash_states old new (ps ++ text_in_slot secret c ∷ []) (anchor_of secret c) result → StaysIntact (plain_store secret) (outside old) (outside new)
-format_keeps outside crash_states secret head segments c ps space old new result s zero_count zeros reads start puts tells unforged before from is intact =
-    let store : Store = plain_store secret in
+pub format_keeps : {D T E : Type 0} (outside : D → Outside) (crash_states : D → CrashStates) (store : Store) (head : Head) (segments : ℕ) (c : Commit) (ps : List Placed) (space : SegmentSpace) (old new : D)
+    (result : Result T E) → IsStart store head segments c ps space → head.count ≡ 0 → head.mark.0 ≡ replicate 32 0 → commit_of (commit_key_of store.secret) (text_of store.secret c) ≡ Some c → (IsTrue (outside old).tells → (outside old).anchor.0 ≡ 0)
+    → Puts outside crash_states old new (ps ++ text_in_slot store.secret c ∷ []) (anchor_of store.secret c) result → StaysIntact store (outside old) (outside new)
+format_keeps outside crash_states store head segments c ps space old new result s zero_count zeros reads start puts tells unforged before from is intact =
     let from_is : from ≡ first_state = starts_first (outside old) store before from (start tells) is in
     let count : c.count ≡ 0 + 1 = omega (arith, ap (λ (k : Commit). k.count) s.commit, zero_count) in
     let based : from.base ≤ c.base = omega (arith, ap (λ (x : StoreState). x.base) from_is) in
-    let steps = first_steps (outside old) secret head segments c ps space s zero_count (start tells) before from is tt in
+    let steps = first_steps (outside old) store head segments c ps space s zero_count (start tells) before from is tt in
     put_keeps store (outside old) (outside new) 0 ps puts.done puts.rest c before from is reads count s.laid.in_segments s.laid.apart
     (subst (λ (x : StoreState). All (IsFreshIn x.space) ps) (sym from_is) (fresh_at_first ps)) puts.in_order (puts.wrote.trace tells) (ap (λ (x : StoreState). x.count) from_is) intact
     (replicate 32 0) steps.0 steps.1 (ap (λ (k : Commit). k.prev.0) s.commit ∙ zeros) (λ zero. refl) steps.3 based (start tells) (inr refl) unforged (puts.anchor tells)

@@ -26,7 +26,7 @@ use Rattle.tdb_overlay.proofs.Unmistaken.{read_is_piece, was_read}
 use Rattle.tdb_overlay.specs.Needed.{needed}
 use Rattle.tdb_chunk.specs.Known.{Knows, store_of}
 use Rattle.tdb_chunk.specs.Reading.{IsDamageOf, name_of, IsDamagedChunk}
-use Rattle.tdb_chunk.specs.declared.store.Store as memory
+use Rattle.tdb_chunk.specs.declared.open_log.OpenLog.{OpenLog}
 
 -- what a fetch tells of a damaged record
 pub damage_is : (piece : Piece) (old new : Outside) (damage : Damage) → damage.place ≡ piece.place → damage.expected ≡ piece.digest
@@ -89,7 +89,7 @@ module _ (finds : Finds) (secret : List ℕ) (rank : ℕ) where
         opened = subst (λ (n : ℕ). IsSealedRecord (partition_key secret c.home n) (record { kind = 1; suite = c.suite; home = c.home; rank = rank }) bytes is.sealed) (sym are.birth) by_home;
       }
 
-  in_state : (cover : Option Covered) (found : Option Partition) (leader : Leader) (piece : Piece) → IsCoveredAt finds secret cover found → Some leader ≡ option_map leader_of cover → Here piece ≡ seen_in (option_and_then (λ (c : Covered). finmap.get c.edits rank) cover)
+  pub in_state : (cover : Option Covered) (found : Option Partition) (leader : Leader) (piece : Piece) → IsCoveredAt finds secret cover found → Some leader ≡ option_map leader_of cover → Here piece ≡ seen_in (option_and_then (λ (c : Covered). finmap.get c.edits rank) cover)
       → KnownChunk finds secret leader rank piece (option_and_then (λ (p : Partition). finmap.get p.chunks rank) found)
   in_state None found leader piece is led here = let no : ◌≡◌ {A = Option Leader} (Some leader) None = led in absurd (cc)
   in_state (Some c) None leader piece is led here = absurd is
@@ -121,13 +121,13 @@ module _ (finds : Finds) (secret : List ℕ) (rank : ℕ) where
   not_in p (Some (Some q)) chunk is isnt = absurd (isnt q refl)
 
   -- the partition is there, and has no such chunk
-  lacks : (cover : Option Covered) (found : Option Partition) (leader : Leader) → IsCoveredAt finds secret cover found → Some leader ≡ option_map leader_of cover → ((piece : Piece) → seen_in (option_and_then (λ (c : Covered). finmap.get c.edits rank) cover) ≡ Here piece → ⊥)
+  pub lacks : (cover : Option Covered) (found : Option Partition) (leader : Leader) → IsCoveredAt finds secret cover found → Some leader ≡ option_map leader_of cover → ((piece : Piece) → seen_in (option_and_then (λ (c : Covered). finmap.get c.edits rank) cover) ≡ Here piece → ⊥)
       → (found ≢ None) × (option_and_then (λ (p : Partition). finmap.get p.chunks rank) found ≡ None)
   lacks None found leader is led isnt = let no : ◌≡◌ {A = Option Leader} (Some leader) None = led in absurd (cc)
   lacks (Some c) None leader is led isnt = absurd is
   lacks (Some c) (Some p) leader is led isnt = (λ none. absurd (let no : ◌≡◌ {A = Option Partition} (Some p) None = none in cc), not_in p (finmap.get c.edits rank) (finmap.get p.chunks rank) (is.chunks rank) isnt)
 
-module _ (o : Outside) (store : memory.Store) (last : StoreState) (known : Knows o store last) (part rank : ℕ) (leader : Leader) (led : Some leader ≡ option_map leader_of (finmap.get store.log.overlay part)) where
+module _ (o : Outside) (store : OpenLog) (last : StoreState) (known : Knows o store last) (part rank : ℕ) (leader : Leader) (led : Some leader ≡ option_map leader_of (finmap.get store.log.overlay part)) where
   pub known_chunk : (piece : Piece) → Here piece ≡ seen_at store.log.overlay part rank → KnownChunk (needed o.trace.written (store_of store) o.anchor) store.keys leader rank piece (chunk_at last.chunks part rank)
   known_chunk piece here = in_state (needed o.trace.written (store_of store) o.anchor) store.keys rank (finmap.get store.log.overlay part) (finmap.get last.chunks part) leader piece (known.chunks part) led here
 
@@ -135,7 +135,7 @@ module _ (o : Outside) (store : memory.Store) (last : StoreState) (known : Knows
   known_lack isnt = lacks (needed o.trace.written (store_of store) o.anchor) store.keys rank (finmap.get store.log.overlay part) (finmap.get last.chunks part) leader (known.chunks part) led isnt
 
 -- damage to the record of a chunk that the store knows
-pub damaged_chunk : (old new : Outside) (store : memory.Store) (last : StoreState) (known : Knows old store last) (part rank : ℕ) (piece : Piece) (damage : Damage) → Here piece ≡ seen_at store.log.overlay part rank
+pub damaged_chunk : (old new : Outside) (store : OpenLog) (last : StoreState) (known : Knows old store last) (part rank : ℕ) (piece : Piece) (damage : Damage) → Here piece ≡ seen_at store.log.overlay part rank
     → IsTrue old.tells → IsDamageOf piece old new damage → IsDamagedChunk old new store last part rank damage
 damaged_chunk old new store last known part rank piece damage here tells is =
     let r = record_in (needed old.trace.written (store_of store) old.anchor) store.keys rank (finmap.get store.log.overlay part) (finmap.get last.chunks part) piece (known.chunks part) here in

@@ -3,7 +3,6 @@ use Rattle.std.proofs.Common.{◌≡◌, ◌⊎◌, inl, inr, ⊎_elim, ℕ, zer
 use Rattle.std.specs.Prelude.{All, AllPairs}
 use Rattle.std.proofs.lemmas.Bool.{cases_lt}
 use Rattle.std.specs.List.{AllByRecursion}
-use Rattle.std.proofs.lemmas.List.Elements.{All-tail}
 use Rattle.sha2.specs.Sha256.{sha256}
 use Rattle.tdb_append.specs.Placed.{FitsOneSegment, IsApart, Placed, with_all_written}
 use Rattle.tdb_append.specs.Put.{slot_place}

@@ -33,14 +33,15 @@ use Rattle.tdb_overlay.specs.Found.{Store}
 use Rattle.tdb_overlay.specs.Keys.{system_key}
 use Rattle.tdb_overlay.specs.Log.{IsCheckpointOn, IsLog, IsLogOf, IsStep, end_of}
 use Rattle.tdb_overlay.specs.Found.{in_trace}
-use Rattle.tdb_overlay.specs.StoreState.{StoreState, first_place, first_state, formatted_state}
+use Rattle.tdb_overlay.specs.StoreState.{StoreState, first_place, first_state, formatted_state, record_length}
 use Rattle.tdb_chunk.specs.Committing.{AddedFrom}
-use Rattle.tdb_chunk.specs.Formatting.{Formatted, IsStart, plain_store}
+use Rattle.tdb_chunk.specs.Formatting.{Formatted, IsStart}
 use Rattle.tdb_overlay.proofs.PlacedLogs.{IsIn, table_placed}
 use Rattle.tdb_chunk.specs.LaidOut.{IsFreshIn, IsOneOf, LaidOut, in_pieces}
 use Rattle.tdb_chunk.specs.Names.{table_name}
 use Rattle.tdb_chunk.specs.Text.{anchor_of, next_commit, text_in_slot, text_of}
 use Rattle.tdb_chunk.proofs.Growing.{Counts, Steps, put_added}
+use Rattle.tdb_chunk.proofs.Sealing.{record_fits}
 
 first_is_free : (n : ℕ) → 16 ≤ n → at_free_segment (free_segments (fresh_space n)) 0 ≡ Some first_place
 unfolding missing_below
@@ -52,8 +53,8 @@ first_is_free (suc m) least =
     ∙ at_free-some 0 (filter p (range_with_len 1 m)) 0 (omega arith)
 
 -- the first piece of a fresh device goes to the start of the first segment
-pub first_placed : (n : ℕ) → 16 ≤ n → place_in (fresh_space n) 576 0 ≡ Ok (first_place, with_bytes (fresh_space n) first_place 576)
-first_placed n least = place-placed (fresh_space n) 576 0 first_place (next-past (fresh_space n) 576 0 (omega arith) ∙ first_is_free n least)
+pub first_placed : (n m : ℕ) → 16 ≤ n → 1 ≤ m → place_in (fresh_space n) m 0 ≡ Ok (first_place, with_bytes (fresh_space n) first_place m)
+first_placed n m least some = place-placed (fresh_space n) m 0 first_place (next-past (fresh_space n) m 0 (omega (arith, some)) ∙ first_is_free n least)
 
 first_used : (table : Table) → IsTableValue table → used_in table ≡ insert empty 0 → IsUsed table 0
 first_used table value used =
@@ -69,33 +70,36 @@ the_start place p space s e =
 only_one : (p : Placed) → IsOneOf (p ∷ []) p.place p.bytes
 only_one p = inl (refl, refl)
 
-module _ (secret : List ℕ) (head : Head) (segments : ℕ) (first : Piece) (table : Table) (sealed : List ℕ) (space : SegmentSpace)
-    (digest : sha256 sealed ≡ first.digest.0) (size : first.length ≡ length sealed) (long : length sealed ≡ 576) (opened : IsSealedRecord (system_key secret) table_name (table_bytes table) sealed) (is_table : IsTable table) (value : IsTableValue table)
-    (numbered : table.segments ≡ segments) (used : used_in table ≡ insert empty 0) (placed_at : place_in (fresh_space segments) 576 0 ≡ Ok (first.place, space)) (least : 16 ≤ segments) (most : segments ≤ 4096) (zero_count : head.count ≡ 0) where
+module _ (store : Store) (head : Head) (segments : ℕ) (first : Piece) (table : Table) (sealed : List ℕ) (space : SegmentSpace) (n : ℕ) (n_is : n ≡ record_length store.suite 528)
+    (digest : sha256 sealed ≡ first.digest.0) (size : first.length ≡ length sealed) (long : length sealed ≡ n) (opened : IsSealedRecord (system_key store.secret) (table_name store.suite) (table_bytes table) sealed) (is_table : IsTable table) (value : IsTableValue table)
+    (numbered : table.segments ≡ segments) (used : used_in table ≡ insert empty 0) (placed_at : place_in (fresh_space segments) n 0 ≡ Ok (first.place, space)) (least : 16 ≤ segments) (most : segments ≤ 4096) (zero_count : head.count ≡ 0) where
   abbrev pieces : List Placed
   pieces = record { place = first.place.0; bytes = sealed } ∷ []
 
   abbrev commit : Commit
-  commit = next_commit head 2 1 segments first
+  commit = next_commit store.suite head 2 1 segments first
 
-  at : (first.place ≡ first_place) × (space ≡ with_bytes (fresh_space segments) first_place 576)
-  at = the_start first.place first_place space (with_bytes (fresh_space segments) first_place 576) (sym placed_at ∙ first_placed segments least)
+  fits : (1 ≤ n) × (n ≤ 262144)
+  fits = subst (λ (m : ℕ). (1 ≤ m) × (m ≤ 262144)) (sym n_is) (record_fits store.suite 528 (omega arith))
+
+  at : (first.place ≡ first_place) × (space ≡ with_bytes (fresh_space segments) first_place n)
+  at = the_start first.place first_place space (with_bytes (fresh_space segments) first_place n) (sym placed_at ∙ first_placed segments n least fits.0)
 
   place_is : first.place.0 ≡ 262144
   place_is = ap (λ (p : Place). p.0) at.0
 
-  behind : table_space table (end_of first) ≡ with_bytes (fresh_space segments) first_place 576
+  behind : table_space table (end_of first) ≡ with_bytes (fresh_space segments) first_place n
   behind =
-      let long_is : first.length ≡ 576 = size ∙ long in
-      ap (λ (n : ℕ). table_space table (record { 0 = first.place.0 + n })) long_is
-      ∙ ap (λ (n : ℕ). table_space table (record { 0 = n + 576 })) place_is
-      ∙ ap (λ (s : FinSet nat_cmp). let x : SegmentSpace = record { segments = table.segments; used = s; tail = Some (record { 0 = 262720 }) } in x) used
-      ∙ ap (λ (n : ℕ). let x : SegmentSpace = record { segments = n; used = insert empty 0; tail = Some (record { 0 = 262720 }) } in x) numbered
+      let long_is : first.length ≡ n = size ∙ long in
+      ap (λ (m : ℕ). table_space table (record { 0 = first.place.0 + m })) long_is
+      ∙ ap (λ (m : ℕ). table_space table (record { 0 = m + n })) place_is
+      ∙ ap (λ (s : FinSet nat_cmp). let x : SegmentSpace = record { segments = table.segments; used = s; tail = Some (record { 0 = 262144 + n }) } in x) used
+      ∙ ap (λ (m : ℕ). let x : SegmentSpace = record { segments = m; used = insert empty 0; tail = Some (record { 0 = 262144 + n }) } in x) numbered
 
   used_first : IsUsed table (first.place.0 / 262144 - 1)
   used_first = subst (λ (p : Place). IsUsed table (p.0 / 262144 - 1)) (sym at.0) (first_used table value used)
 
-  pub start_is : LaidOut secret (fresh_space segments) space pieces → IsStart secret head segments commit pieces space
+  pub start_is : LaidOut store.secret (fresh_space segments) space pieces → IsStart store head segments commit pieces space
   start_is laid = record {
     first = first;
     commit = refl;
@@ -116,10 +120,10 @@ module _ (secret : List ℕ) (head : Head) (segments : ℕ) (first : Piece) (tab
       kind = inr (refl, omega (arith, zero_count));
       fewest = least;
       most = most;
-      first = (0, omega arith, record { some = omega (arith, size, long); begins = omega (arith, place_is); ends = omega (arith, place_is, size, long) });
+      first = (0, omega arith, record { some = omega (arith, size, long, fits.0); begins = omega (arith, place_is); ends = omega (arith, place_is, size, long, fits.1) });
       root = tt;
     };
-    is_first = at.1;
+    is_first = at.1 ∙ ap (λ (m : ℕ). with_bytes (fresh_space segments) first_place m) n_is;
   }
 
 -- an anchor of count 0 has no text
@@ -130,19 +134,18 @@ starts_first o store before from start is =
     none.1
 
 -- the first text is a checkpoint on no text
-pub first_steps : (o : Outside) (secret : List ℕ) (head : Head) (segments : ℕ) (c : Commit) (ps : List Placed) (space : SegmentSpace) → IsStart secret head segments c ps space → head.count ≡ 0 → o.anchor.0 ≡ 0
-    → Steps (λ _. Unit {0}) (plain_store secret) o ps c (Formatted (plain_store secret) segments)
-first_steps o secret head segments c ps space s zero_count start before from is known =
-    let store : Store = plain_store secret in
+pub first_steps : (o : Outside) (store : Store) (head : Head) (segments : ℕ) (c : Commit) (ps : List Placed) (space : SegmentSpace) → IsStart store head segments c ps space → head.count ≡ 0 → o.anchor.0 ≡ 0
+    → Steps (λ _. Unit {0}) store o ps c (Formatted store segments)
+first_steps o store head segments c ps space s zero_count start before from is known =
     let from_is : from ≡ first_state = starts_first o store before from start is in
     let one : c.count ≡ 1 = omega (arith, ap (λ (k : Commit). k.count) s.commit, zero_count) in
     let none : from.count ≡ 0 = ap (λ (x : StoreState). x.count) from_is in
     let after : formatted_state store segments ≡ record { count = c.count; base = c.count; space = table_space s.table.table (end_of c.first); chunks = from.chunks } =
-    ap (λ (n : ℕ). let x : StoreState = record { count = n; base = n; space = with_bytes (fresh_space segments) first_place 576; chunks = no_partitions } in x) (sym one)
+    ap (λ (n : ℕ). let x : StoreState = record { count = n; base = n; space = with_bytes (fresh_space segments) first_place (record_length store.suite 528); chunks = no_partitions } in x) (sym one)
     ∙ ap (λ (y : SegmentSpace). let x : StoreState = record { count = c.count; base = c.count; space = y; chunks = no_partitions } in x) (sym (s.after ∙ s.is_first))
     ∙ ap (λ (y : StoreState). let x : StoreState = record { count = c.count; base = c.count; space = table_space s.table.table (end_of c.first); chunks = y.chunks } in x) (sym from_is) in
     let placed : IsIn (formatted_state store segments).space c.first =
-    subst (λ (x : StoreState). IsIn x.space c.first) (sym after) (table_placed (in_pieces ps) secret c s.in_format s.table).1 in
+    subst (λ (x : StoreState). IsIn x.space c.first) (sym after) (table_placed (in_pieces ps) store.secret c s.in_format s.table).1 in
     let checkpoint : IsCheckpointOn (in_pieces ps) store from c (formatted_state store segments) = record {
       kind = ap (λ (k : Commit). k.kind) s.commit;
       next = omega (arith, one, none);
@@ -152,7 +155,7 @@ first_steps o secret head segments c ps space s zero_count start before from is 
       after_is = after;
       placed = λ piece which. ⊎_elim (λ same. subst (IsIn (formatted_state store segments).space) (sym same) placed) (λ reached. absurd reached) which;
     } in
-    let step : IsStep (in_pieces ps) store from c [] (formatted_state store segments) = record { used = tt; suite = ap (λ (k : Commit). k.suite) s.commit; adds = inl (checkpoint, refl) } in
+    let step : IsStep (in_pieces ps) store from c [] (formatted_state store segments) = record { suite = ap (λ (k : Commit). k.suite) s.commit; adds = inl (checkpoint, refl) } in
     ([], formatted_state store segments, (refl, none, refl), step)
 
 -- nothing was placed before the first text
@@ -164,12 +167,12 @@ pub fresh_valid : (n : ℕ) → 16 ≤ n → n ≤ 4096 → IsSegmentSpace (fres
 fresh_valid n least most = record { least = least; most = most; used = λ k used. absurd (false≢true (sym (contains-empty nat_cmp k) ∙ used)); tail = refl }
 
 -- a put of the start adds the first text
-pub format_added : {D T E : Type 0} (outside : D → Outside) (crash_states : D → CrashStates) (counts : Counts outside crash_states) (secret : List ℕ) (head : Head) (segments : ℕ) (c : Commit) (ps : List Placed) (space : SegmentSpace) (old new : D)
-    (result : Result T E) → IsStart secret head segments c ps space → head.count ≡ 0 → head.mark.0 ≡ replicate 32 0 → commit_of (commit_key_of secret) (text_of secret c) ≡ Some c → IsTrue (outside old).tells → (outside old).anchor.0 ≡ 0
-    → IsSettled outside crash_states old → Puts outside crash_states old new (ps ++ text_in_slot secret c ∷ []) (anchor_of secret c) result → OnOk result ((outside new).anchor ≡ anchor_of secret c)
-    → OnOk result ((i : List ℕ) (a : Anchor) → now outside crash_states new i a → a ≡ anchor_of secret c)
-    → AddedFrom outside crash_states (λ _. Unit {0}) (plain_store secret) old new (Formatted (plain_store secret) segments) result
-format_added outside crash_states counts secret head segments c ps space old new result s zero_count zeros reads tells start settled puts advanced only =
-    put_added outside crash_states counts (λ _. Unit {0}) (Formatted (plain_store secret) segments) (plain_store secret) old new 0 (replicate 32 0) (text_in_slot secret c) ps c reads
-    (omega (arith, ap (λ (k : Commit). k.count) s.commit, zero_count)) (ap (λ (k : Commit). k.prev.0) s.commit ∙ zeros) (λ zero. refl) (first_steps (outside old) secret head segments c ps space s zero_count start) tells start (inr refl) settled
+pub format_added : {D T E : Type 0} (outside : D → Outside) (crash_states : D → CrashStates) (counts : Counts outside crash_states) (store : Store) (head : Head) (segments : ℕ) (c : Commit) (ps : List Placed) (space : SegmentSpace) (old new : D)
+    (result : Result T E) → IsStart store head segments c ps space → head.count ≡ 0 → head.mark.0 ≡ replicate 32 0 → commit_of (commit_key_of store.secret) (text_of store.secret c) ≡ Some c → IsTrue (outside old).tells → (outside old).anchor.0 ≡ 0
+    → IsSettled outside crash_states old → Puts outside crash_states old new (ps ++ text_in_slot store.secret c ∷ []) (anchor_of store.secret c) result → OnOk result ((outside new).anchor ≡ anchor_of store.secret c)
+    → OnOk result ((i : List ℕ) (a : Anchor) → now outside crash_states new i a → a ≡ anchor_of store.secret c)
+    → AddedFrom outside crash_states (λ _. Unit {0}) store old new (Formatted store segments) result
+format_added outside crash_states counts store head segments c ps space old new result s zero_count zeros reads tells start settled puts advanced only =
+    put_added outside crash_states counts (λ _. Unit {0}) (Formatted store segments) store old new 0 (replicate 32 0) (text_in_slot store.secret c) ps c reads
+    (omega (arith, ap (λ (k : Commit). k.count) s.commit, zero_count)) (ap (λ (k : Commit). k.prev.0) s.commit ∙ zeros) (λ zero. refl) (first_steps (outside old) store head segments c ps space s zero_count start) tells start (inr refl) settled
     result puts advanced only

@@ -45,7 +45,7 @@ use Rattle.tdb_chunk.specs.Names.{chunk_name}
 use Rattle.tdb_chunk.specs.Preparing.{IsPrepared}
 use Rattle.tdb_chunk.specs.Writing.{AreLaid, HasNeither, IsEntryOf, IsInLimits, IsWritable, TakesWrites, chunk_record, make_entry, nowhere, write_entry, write_of, writes_of}
 use Rattle.tdb_chunk.specs.declared.chunk.Chunk.{Chunk}
-use Rattle.tdb_chunk.specs.declared.store.Store as memory
+use Rattle.tdb_chunk.specs.declared.open_log.OpenLog.{OpenLog}
 use Rattle.tdb_chunk.proofs.Committing.{few_pass, last_found, more_found, no_room}
 use Rattle.tdb_overlay.proofs.Lengths.{as_many}
 use Rattle.tdb_overlay.proofs.LogLaws.{changes_stay}
@@ -172,7 +172,7 @@ made_is finds secret c None state part there is parent suite = absurd is
 made_is finds secret c (Some p) state part there is parent suite =
     record { partition = p; is_there = there; suite = sym is.suite ∙ suite; home_is = sym is.home; birth_is = sym is.birth; parent = sym is.parent ∙ parent }
 
-pub known_made : (o : Outside) (store : memory.Store) (last : StoreState) (part : ℕ) (w : IsWritable store.log.overlay part) → Knows o store last → IsMade last.chunks part w.covered.home w.covered.birth
+pub known_made : (o : Outside) (store : OpenLog) (last : StoreState) (part : ℕ) (w : IsWritable store.log.overlay part) → Knows o store last → IsMade last.chunks part w.covered.home w.covered.birth
 known_made o store last part w known =
     made_is (needed o.trace.written (store_of store) o.anchor) store.keys w.covered (finmap.get last.chunks part) last.chunks part refl
     (subst (λ (c : Option Covered). IsCoveredAt (needed o.trace.written (store_of store) o.anchor) store.keys c (finmap.get last.chunks part)) w.is_there (known.chunks part)) w.parent w.suite
@@ -217,11 +217,11 @@ needs_four part [] some = absurd (omega (arith, some))
 needs_four part (chunk ∷ chunks) some = refl
 
 -- Of a commit that writes chunks of a partition.
-module _ (o : Outside) (store : memory.Store) (part : PartId) (chunks : List Chunk) (w : IsWritable store.log.overlay part.0) (limits : AllByRecursion IsInLimits chunks) (some : 1 ≤ length chunks) where
+module _ (o : Outside) (store : OpenLog) (part : PartId) (chunks : List Chunk) (w : IsWritable store.log.overlay part.0) (limits : AllByRecursion IsInLimits chunks) (some : 1 ≤ length chunks) where
   pub writes_check : (last : StoreState) → Knows o store last → check last.chunks (writes_of part chunks) ≡ None
   writes_check last known = writes_pass part w.number w.covered.home w.covered.birth [] last.chunks chunks limits (known_made o store last part.0 w known)
 
-  pub writes_prepared : (entries : List Entry) (pieces : List Placed) (space : SegmentSpace) → AreLaid store.keys store.log.segments part (leader_of w.covered) chunks entries pieces space → IsPrepared o store entries pieces space (writes_of part chunks)
+  pub writes_prepared : (entries : List Entry) (pieces : List Placed) (space : SegmentSpace) → AreLaid store.keys store.log.segments part (leader_of w.covered) chunks entries pieces space → IsPrepared o store 4 entries pieces space (writes_of part chunks)
   writes_prepared entries pieces space are = record {
     each = are.changes;
     fit = are.fit;
@@ -238,8 +238,8 @@ module _ (o : Outside) (store : memory.Store) (part : PartId) (chunks : List Chu
   writes_refused refusal not_full counts_on few refuses last known =
       let changes : List Change = writes_of part chunks in
       let ns : List ℕ = records_of (store_of store) (last.count + 1) last.chunks changes in
-      let n : ℕ = record_length Plain (16 + 72 * length changes) in
-      no_room o store not_full counts_on last known changes (needs_four part chunks some) (few_pass last changes (omega (arith, length-map chunks (write_of part), few)) (writes_check last known)) refusal
+      let n : ℕ = record_length store.log.suite (16 + 72 * length changes) in
+      no_room o store not_full counts_on last known changes 4 (needs_four part chunks some) (few_pass last changes (omega (arith, length-map chunks (write_of part), few)) (writes_check last known)) refusal
       (fits-append store.log.segments ns (n ∷ []) 4
       ∙ ap (λ (r : Result (List Place × SegmentSpace) room.NoRoom). fits_after r (n ∷ []) 4)
       (ap (λ (l : List ℕ). fits store.log.segments l 4) (writes_lengths part w.number w.covered.home w.covered.birth (store_of store) (last.count + 1) last.chunks chunks (known_made o store last part.0 w known)) ∙ refuses))
@@ -266,7 +266,7 @@ uncovered : (finds : Finds) (secret : List ℕ) (found : Option Partition) → I
 uncovered finds secret None is = refl
 uncovered finds secret (Some p) is = absurd is
 
-known_absent : (o : Outside) (store : memory.Store) (last : StoreState) (part : ℕ) → finmap.get store.log.overlay part ≡ None → Knows o store last → finmap.get last.chunks part ≡ None
+known_absent : (o : Outside) (store : OpenLog) (last : StoreState) (part : ℕ) → finmap.get store.log.overlay part ≡ None → Knows o store last → finmap.get last.chunks part ≡ None
 known_absent o store last part none known =
     uncovered (needed o.trace.written (store_of store) o.anchor) store.keys (finmap.get last.chunks part)
     (subst (λ (c : Option Covered). IsCoveredAt (needed o.trace.written (store_of store) o.anchor) store.keys c (finmap.get last.chunks part)) none (known.chunks part))
@@ -274,10 +274,10 @@ known_absent o store last part none known =
 makes_pass : (state : State) → finmap.get state 1 ≡ None → finmap.get state 2 ≡ None → check state (opening_changes Plain) ≡ None
 makes_pass state one two = rw (one, get_inserted state 1 (made 0 1 Plain) 2, two) refl
 
-pub makes_check : (o : Outside) (store : memory.Store) → HasNeither store.log.overlay → (last : StoreState) → Knows o store last → check last.chunks (opening_changes Plain) ≡ None
+pub makes_check : (o : Outside) (store : OpenLog) → HasNeither store.log.overlay → (last : StoreState) → Knows o store last → check last.chunks (opening_changes Plain) ≡ None
 makes_check o store neither last known = makes_pass last.chunks (known_absent o store last 1 neither.0 known) (known_absent o store last 2 neither.1 known)
 
-pub makes_prepared : (o : Outside) (store : memory.Store) (pieces : List Placed) → HasNeither store.log.overlay → IsPrepared o store (make_entry 1 ∷ make_entry 2 ∷ []) pieces store.log.segments (opening_changes Plain)
+pub makes_prepared : (o : Outside) (store : OpenLog) (pieces : List Placed) → HasNeither store.log.overlay → IsPrepared o store 4 (make_entry 1 ∷ make_entry 2 ∷ []) pieces store.log.segments (opening_changes Plain)
 unfolding fits
 makes_prepared o store pieces neither = record {
   each = ((refl, refl, refl), ((refl, refl, refl), tt));

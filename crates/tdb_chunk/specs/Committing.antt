@@ -1,11 +1,11 @@
--- What a commit does to a store in memory and to the platform.
-use Rattle.std.specs.Prelude.{◌≡◌, ◌≢◌, ◌+◌, ◌≤◌, ℕ, Bool, true, false, List, [], ◌∷◌, ◌++◌, Result, Ok, Err, IsTrue, IfErr, OnOk}
+-- What a commit does to an open log and to the platform.
+use Rattle.std.specs.Prelude.{◌≡◌, ◌≢◌, ◌+◌, ◌<◌, ◌≤◌, ℕ, Bool, true, false, List, [], ◌∷◌, ◌++◌, Result, Ok, Err, IsTrue, IfErr, OnOk}
 use Rattle.tdb_base.specs.Trace.{Extends}
 use Rattle.tdb_mark.specs.CommitText.{commit_key_of, commit_of}
 use Rattle.tdb_mark.specs.Unforged.{IsUnforged}
 use Rattle.tdb_model.specs.declared.change.Change.{Change}
 use Rattle.tdb_model.specs.declared.error.CommitError.{CommitError}
-use Rattle.tdb_model.specs.declared.error.CommitError.TheVariants.{Fault, Memory, NoRoom}
+use Rattle.tdb_model.specs.declared.error.CommitError.TheVariants.{CounterEnd, Fault, Memory, NoRoom, Stopped, TooManyChanges}
 use Rattle.tdb_model.specs.Apply.{History}
 use Rattle.tdb_platform.specs.Outside.{Anchor, Outside, Rose}
 use Rattle.tdb_platform.specs.CrashStates.{CrashStates, now, LeavesOnly}
@@ -16,7 +16,8 @@ use Rattle.tdb_overlay.specs.Log.{IsLog}
 use Rattle.tdb_overlay.specs.SealedOnly.{OnlySealed}
 use Rattle.tdb_overlay.specs.StoreState.{StoreState, commit_on}
 use Rattle.tdb_chunk.specs.Known.{IsAtHead, Knows, store_of}
-use Rattle.tdb_chunk.specs.declared.store.Store as memory
+use Rattle.tdb_chunk.specs.Stepping.{IsCommitStep}
+use Rattle.tdb_chunk.specs.declared.open_log.OpenLog.{OpenLog}
 
 -- which last states of a log are known
 abbrev pub Known : Type 1
@@ -54,19 +55,22 @@ is_early Fault = false
 is_early (NoRoom refusal) = false
 is_early _ = true
 
+-- What a refusal says of itself, whatever the log: of the number of changes and of the count of the last text.
+abbrev pub IsRightOf : ℕ → ℕ → CommitError → Type 0
+IsRightOf number count Stopped = ⊥
+IsRightOf number count (TooManyChanges many) = (many ≡ number) × (1024 < number)
+IsRightOf number count CounterEnd = count ≡ 18446744073709551615
+IsRightOf number count _ = Unit {0}
+
 -- After Ok the log is one commit longer, and the store knows the state behind it.
-pub record IsLonger (old new : Outside) (was now : memory.Store) (changes : List Change) (before : History) (from : StoreState) : Type 0 where
+pub record IsLonger (old new : Outside) (was now : OpenLog) (changes : List Change) (before : History) (from : StoreState) : Type 0 where
   pub to : StoreState
   pub allowed : commit_on (store_of was) from changes ≡ Ok to
   pub log : IsLog new.trace.written (store_of was) new.anchor (before ++ (from.count + 1, changes) ∷ []) to
   pub knows : Knows new now to
 
--- the keys, the head and the segments are as they were
-abbrev pub IsKept : memory.Store → memory.Store → Type 0
-IsKept was now = (now.keys ≡ was.keys) × (now.log.head ≡ was.log.head) × (now.log.segments ≡ was.log.segments)
-
 -- Of a commit of changes: what it adds to the log, what the store knows afterwards, and what each refusal means.
-pub record IsCommitCall {D T : Type 0} (outside : D → Outside) (crash_states : D → CrashStates) (changes : List Change) (was now_is : memory.Store) (old new : D) (result : Result T CommitError) : Type 0 where
+pub record IsCommitCall {D T : Type 0} (outside : D → Outside) (crash_states : D → CrashStates) (changes : List Change) (was now_is : OpenLog) (old new : D) (result : Result T CommitError) : Type 0 where
   -- it adds one commit of these changes to the log that the store knows
   pub added : IsTrue (outside old).tells → AddedFrom outside crash_states (Knows (outside old) was) (store_of was) old new (OneCommit (store_of was) changes) result
   pub knows : IsTrue (outside old).tells → OnOk result (IsUnforged (outside new).trace (commit_of (commit_key_of was.keys)) → (before : History) (from : StoreState)
@@ -79,9 +83,8 @@ pub record IsCommitCall {D T : Type 0} (outside : D → Outside) (crash_states :
   pub refused : (last : StoreState) → Knows (outside old) was last → IfErr result (λ e. IsTrue (is_refusal e) → commit_on (store_of was) last changes ≡ Err e)
   pub allowed : (last : StoreState) → Knows (outside old) was last → OnOk result (IsAllowedOn (store_of was) last changes)
   pub fault_allowed : result ≡ Err Fault → (last : StoreState) → Knows (outside old) was last → IsAllowedOn (store_of was) last changes
-  -- what failed leaves the keys, the head and the segments; what was refused leaves all
-  pub kept : IfErr result (λ e. IsKept was now_is)
-  pub store_stays : IfErr result (λ e. IsTrue (is_refusal e) → now_is ≡ was)
+  -- what was refused or failed leaves the open log as it was, and the platform too unless that failed
+  pub kept : IfErr result (λ e. now_is ≡ was)
   pub platform_stays : IfErr result (λ e. e ≢ Fault → new ≡ old)
   pub at_head : OnOk result (IsAtHead (outside new) now_is)
   pub same_store : OnOk result (store_of now_is ≡ store_of was)
@@ -91,7 +94,12 @@ pub record IsCommitCall {D T : Type 0} (outside : D → Outside) (crash_states :
   pub tells : (outside new).tells ≡ (outside old).tells
   pub honest : (outside new).honest ≡ (outside old).honest
   pub faults : (outside old).faults ≤ (outside new).faults
+  -- time goes on, and with Ok there was no fault
+  pub moments : LeavesOnly outside crash_states old new (λ i a. Unit {0})
+  pub quiet : OnOk result ((outside new).faults ≡ (outside old).faults)
   -- nothing is read from the device
   pub unread : IsTrue (outside old).tells → (outside new).trace.read ≡ (outside old).trace.read
   -- only sealed records and texts go to the device
   pub sealed : OnlySealed was.keys (outside old) (outside new)
+  -- where the open log knows the log, it is a step of a run
+  pub steps : IsCommitStep outside crash_states changes was old new result

@@ -3,6 +3,7 @@ use Rattle.std.specs.Prelude.{◌≡◌, ℕ, List, []}
 use Rattle.tdb_append.specs.Placed.{Placed}
 use Rattle.tdb_append.specs.declared.head.Head.{Head}
 use Rattle.tdb_base.specs.declared.piece.Piece.{Piece}
+use Rattle.tdb_base.specs.declared.suite.Suite.{Suite}
 use Rattle.tdb_base.specs.declared.suite.Suite.TheVariants.{Plain}
 use Rattle.tdb_mark.specs.declared.commit.Commit.{Commit}
 use Rattle.tdb_mark.specs.CommitFormat.{IsInFormat}
@@ -10,26 +11,30 @@ use Rattle.tdb_seg.specs.SegmentSpace.{SegmentSpace, fresh_space, with_bytes}
 use Rattle.tdb_overlay.specs.Changes.{HasTable}
 use Rattle.tdb_overlay.specs.Found.{Store}
 use Rattle.tdb_overlay.specs.Growth.{Commits}
-use Rattle.tdb_overlay.specs.StoreState.{first_place, formatted_state}
+use Rattle.tdb_overlay.specs.StoreState.{first_place, formatted_state, record_length}
 use Rattle.tdb_seg.specs.TableSpace.{table_space}
 use Rattle.tdb_overlay.specs.Log.{end_of}
 use Rattle.tdb_chunk.specs.LaidOut.{LaidOut, in_pieces}
 use Rattle.tdb_chunk.specs.Text.{next_commit}
 
--- a store in suite plain
+-- the store of a secret in a suite
+abbrev pub store_under : List ℕ → Suite → Store
+store_under secret suite = record { secret = secret; suite = suite }
+
+-- that in suite plain
 abbrev pub plain_store : List ℕ → Store
-plain_store secret = record { secret = secret; suite = Plain }
+plain_store secret = store_under secret Plain
 
 -- From no text to the first checkpoint, of so many segments, which is no commit.
 abbrev pub Formatted : Store → ℕ → Commits
 Formatted store segments from more to = (more ≡ []) × (from.count ≡ 0) × (to ≡ formatted_state store segments)
 
 -- The start of a log that is laid: its text names the table, which has the space behind the table itself.
-pub record IsStart (secret : List ℕ) (head : Head) (segments : ℕ) (c : Commit) (pieces : List Placed) (space : SegmentSpace) : Type 0 where
+pub record IsStart (store : Store) (head : Head) (segments : ℕ) (c : Commit) (pieces : List Placed) (space : SegmentSpace) : Type 0 where
   pub first : Piece
-  pub commit : c ≡ next_commit head 2 1 segments first
-  pub laid : LaidOut secret (fresh_space segments) space pieces
-  pub table : HasTable (in_pieces pieces) secret c
+  pub commit : c ≡ next_commit store.suite head 2 1 segments first
+  pub laid : LaidOut store.secret (fresh_space segments) space pieces
+  pub table : HasTable (in_pieces pieces) store.secret c
   pub after : table_space table.table (end_of c.first) ≡ space
   pub in_format : IsInFormat c
-  pub is_first : space ≡ with_bytes (fresh_space segments) first_place 576
+  pub is_first : space ≡ with_bytes (fresh_space segments) first_place (record_length store.suite 528)

@@ -1,6 +1,7 @@
 -- What a read of a chunk says.
 use Rattle.std.specs.Prelude.{◌≡◌, ℕ, List, Some, IsTrue}
 use Rattle.std.specs.FinMap.{get}
+use Rattle.sha2.specs.Sha256.{sha256}
 use Rattle.tdb_base.specs.declared.piece.Damage.{Damage}
 use Rattle.tdb_base.specs.declared.piece.Piece.{Piece}
 use Rattle.tdb_base.specs.Trace.{with_read}
@@ -16,7 +17,7 @@ use Rattle.tdb_overlay.specs.Required.{IsDamaged, IsRequired}
 use Rattle.tdb_overlay.specs.StoreState.{StoreState}
 use Rattle.tdb_overlay.specs.declared.overlay.Leader.{Leader}
 use Rattle.tdb_chunk.specs.Known.{store_of}
-use Rattle.tdb_chunk.specs.declared.store.Store as memory
+use Rattle.tdb_chunk.specs.declared.open_log.OpenLog.{OpenLog}
 
 -- what the record of a chunk of a partition is called
 abbrev pub name_of : Leader → ℕ → Name
@@ -30,7 +31,7 @@ pub record IsDamageOf (piece : Piece) (old new : Outside) (damage : Damage) : Ty
 
 -- The damage is of the record of a chunk of a state: of a piece that the log of the anchor needs, and that opens to the
 -- chunk's bytes. The last of what was read of it gave bytes with another digest.
-pub record IsDamagedChunk (old new : Outside) (s : memory.Store) (last : StoreState) (part rank : ℕ) (damage : Damage) : Type 0 where
+pub record IsDamagedChunk (old new : Outside) (s : OpenLog) (last : StoreState) (part rank : ℕ) (damage : Damage) : Type 0 where
   pub piece : Piece
   pub place : damage.place ≡ piece.place
   pub expected : damage.expected ≡ piece.digest
@@ -47,8 +48,15 @@ pub record IsDamagedChunk (old new : Outside) (s : memory.Store) (last : StoreSt
 abbrev pub HasReadWhole : Piece → Outside → Outside → Type 0
 HasReadWhole piece old new = (bytes : List ℕ) × (new.trace ≡ with_read old.trace piece.place.0 piece.length bytes)
 
+-- A piece was read, once and whole, and nothing else was. It showed its digest, and bytes that have P.
+pub record HasShown (piece : Piece) (old new : Outside) (P : List ℕ → Type 0) : Type 0 where
+  pub bytes : List ℕ
+  pub read : new.trace ≡ with_read old.trace piece.place.0 piece.length bytes
+  pub digest : sha256 bytes ≡ piece.digest.0
+  pub holds : P bytes
+
 -- A piece that the log of the anchor needs was read, once and whole, and nothing else was.
-pub record HasReadPiece (old new : Outside) (s : memory.Store) : Type 0 where
+pub record HasReadPiece (old new : Outside) (s : OpenLog) : Type 0 where
   pub piece : Piece
   pub required : IsRequired old.trace.written (store_of s) old.anchor piece
   pub bytes : List ℕ

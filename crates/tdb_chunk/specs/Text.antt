@@ -5,7 +5,7 @@ use Rattle.tdb_append.specs.declared.head.Head.{Head}
 use Rattle.tdb_append.specs.Placed.{Placed}
 use Rattle.tdb_append.specs.Put.{slot_place}
 use Rattle.tdb_base.specs.declared.piece.Piece.{Piece}
-use Rattle.tdb_base.specs.declared.suite.Suite.TheVariants.{Plain}
+use Rattle.tdb_base.specs.declared.suite.Suite.{Suite}
 use Rattle.tdb_mark.specs.declared.commit.Commit.{Commit}
 use Rattle.tdb_mark.specs.CommitText.{commit_key_of, commit_text}
 use Rattle.tdb_platform.specs.Outside.{Anchor}
@@ -25,11 +25,11 @@ anchor_of secret c = (c.count, sha256 (text_of secret c))
 abbrev pub next_head : List ℕ → Head → Commit → Head
 next_head secret head c = record { count = c.count; mark = record { 0 = sha256 (text_of secret c) }; base = head.base }
 
--- what the next text says, by its kind, its base and the piece that it names
-abbrev pub next_commit : Head → ℕ → ℕ → ℕ → Piece → Commit
-next_commit head kind base segments first = record {
+-- what the next text says, by its suite, its kind, its base and the piece that it names
+abbrev pub next_commit : Suite → Head → ℕ → ℕ → ℕ → Piece → Commit
+next_commit suite head kind base segments first = record {
   kind = kind;
-  suite = Plain;
+  suite = suite;
   count = head.count + 1;
   prev = head.mark;
   base = base;

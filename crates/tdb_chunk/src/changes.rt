@@ -19,8 +19,8 @@ ghost use Rattle.tdb_chunk.specs.declared.batch.LayError.TheVariants as lay;
 use crate::batch::{Batch, LayError};
 use crate::chunk::Chunk;
 use crate::commit::{KEPT_FREE, refused};
+use crate::open_log::OpenLog;
 use crate::records::seal_chunk;
-use crate::store::Store;
 use std::alloc::Global;
 use tdb_base::{Digest, PartId, Piece, Place, Rank, Suite};
 use tdb_list::Entry;
@@ -94,7 +94,7 @@ fn takes_writes(leader: &Leader) -> bool
         && 1 <= leader.birth
 }
 
-impl Store {
+impl OpenLog {
     /// What is told of a partition, or `None` where it isn't there. It takes no memory.
     pub fn leader(&self, part: PartId) -> Option<Leader>
         ensures { result ≡ option_map leader_of (map.get self.now.log.overlay part.0) }
@@ -121,8 +121,8 @@ impl Store {
 
     /// Makes the empty partitions 1 and 2 in suite plain, by one commit.
     ///
-    /// After a refusal the store is as it was. After `Err(Memory)` the platform is as it was, and after `Err(Fault)` the
-    /// commit stands or not; then the store is of no more use.
+    /// After an error the open log is as it was, and the platform too, unless it failed. After `Err(Fault)` the commit
+    /// stands or not; then the open log is of no more use.
     pub fn make_partitions<P: Platform>(
         &mut self,
         alloc: Global,
@@ -141,7 +141,13 @@ impl Store {
             Ok(()) => {
                 let batch = Batch::new(alloc, self.log.segments);
                 self.log.segments.known();
-                self.commit_entries(alloc, platform, &[make_part(1), make_part(2)], batch)
+                self.commit_entries(
+                    alloc,
+                    platform,
+                    &[make_part(1), make_part(2)],
+                    batch,
+                    KEPT_FREE,
+                )
             }
             Err(refusal) => Err(refusal),
         }
@@ -149,8 +155,8 @@ impl Store {
 
     /// Writes chunks of a partition, one or more, by one commit. Of two with one rank the later one counts.
     ///
-    /// After a refusal the store is as it was. After `Err(Memory)` the platform is as it was, and after `Err(Fault)` the
-    /// commit stands or not; then the store is of no more use.
+    /// After an error the open log is as it was, and the platform too, unless it failed. After `Err(Fault)` the commit
+    /// stands or not; then the open log is of no more use.
     pub fn commit_writes<P: Platform>(
         &mut self,
         alloc: Global,
@@ -174,7 +180,7 @@ impl Store {
         match self.may_follow(chunks.len()) {
             Ok(()) => match self.lay_writes(alloc, part, chunks) {
                 Ok(Writes { entries, batch }) => {
-                    self.commit_entries(alloc, platform, &entries, batch)
+                    self.commit_entries(alloc, platform, &entries, batch, KEPT_FREE)
                 }
                 Err(error) => Err(refused(error)),
             },

@@ -1,21 +1,22 @@
 //! The start of a log on a device.
-ghost use Rattle.std.specs.Prelude.{◌≡◌, ◌≤◌, ◌+◌, Err, IfErr, IfOk, IsTrue, OnOk, replicate};
+ghost use Rattle.std.specs.Prelude.{◌≡◌, ◌≤◌, ◌+◌, [], Err, IfErr, IfOk, IsTrue, OnOk, replicate};
 ghost use Rattle.tdb_append.specs.Placed.{placed};
 ghost use Rattle.tdb_base.specs.Rose.{Rose};
 ghost use Rattle.tdb_mark.specs.declared.commit.Commit.{Commit};
 ghost use Rattle.tdb_seg.specs.SegmentSpace.{fresh_space, with_bytes};
-ghost use Rattle.tdb_overlay.specs.StoreState.{first_place, formatted_state};
+ghost use Rattle.tdb_overlay.specs.StoreState.{first_place, formatted_state, record_length};
 ghost use Rattle.tdb_overlay.specs.Growth.{Added, IsSettled};
 ghost use Rattle.tdb_overlay.specs.Intact.{StaysIntact};
+ghost use Rattle.tdb_overlay.specs.Ran.{RanStep};
 ghost use Rattle.tdb_overlay.specs.SealedOnly.{OnlySealed};
 ghost use Rattle.tdb_chunk.specs.declared.format.StoreError.TheVariants.{Fault, Memory};
-ghost use Rattle.tdb_chunk.specs.Formatting.{Formatted, IsStart, plain_store};
+ghost use Rattle.tdb_chunk.specs.Formatting.{Formatted, IsStart, store_under};
 ghost use Rattle.tdb_chunk.specs.Text.{next_commit};
 ghost use Rattle.tdb_chunk.specs.Known.{IsAtHead, Knows, store_of};
 
 use crate::batch::Batch;
+use crate::open_log::OpenLog;
 use crate::records::seal_table;
-use crate::store::Store;
 use crate::text::put_commit;
 use std::alloc::Global;
 use tdb_append::Head;
@@ -25,9 +26,6 @@ use tdb_overlay::{Keys, Overlay, Recovered};
 use tdb_platform::Platform;
 use tdb_seg::Segments;
 use thiserror::Error;
-
-/// How many bytes the record of a segment table has.
-const TABLE_RECORD: u32 = 576;
 
 /// Why no store was formatted.
 #[derive(Clone, Copy, Debug, PartialEq, Eq, Error)]
@@ -47,14 +45,24 @@ struct Start {
     batch: Batch,
 }
 
+/// How many bytes the record of a segment table has.
+fn table_record(suite: Suite) -> u32
+    ensures { result ≡ record_length suite 528 }
+{
+    match suite {
+        Suite::Plain => 576,
+        Suite::Aes128 | Suite::Aes256 => 592,
+    }
+}
+
 /// The segments behind the table of a fresh device.
-fn first_space(segments: u32) -> Segments
+fn first_space(suite: Suite, segments: u32) -> Segments
     requires least { 16 ≤ segments }
     requires most { segments ≤ 4096 }
-    ensures { result ≡ with_bytes (fresh_space segments) first_place 576 }
+    ensures { result ≡ with_bytes (fresh_space segments) first_place (record_length suite 528) }
 {
     let mut space = Segments::new(segments);
-    let _place = space.place(TABLE_RECORD, 0);
+    let _place = space.place(table_record(suite), 0);
     space
 }
 
@@ -72,13 +80,13 @@ fn no_head() -> Head
 }
 
 /// The first text: a checkpoint without partitions.
-fn first_commit(head: &Head, segments: u32, first: Piece) -> Commit
+fn first_commit(head: &Head, suite: Suite, segments: u32, first: Piece) -> Commit
     requires { head.now.count ≡ 0 }
-    ensures { result ≡ next_commit head.now 2 1 segments first }
+    ensures { result ≡ next_commit suite head.now 2 1 segments first }
 {
     Commit {
         kind: CHECKPOINT,
-        suite: Suite::Plain,
+        suite,
         count: head.count + 1,
         prev: head.mark,
         base: 1,
@@ -89,49 +97,58 @@ fn first_commit(head: &Head, segments: u32, first: Piece) -> Commit
 }
 
 /// Seals and places the table of a fresh device.
-fn lay_start(alloc: Global, keys: &Keys, head: &Head, segments: u32) -> Result<Start, StoreError>
+fn lay_start(
+    alloc: Global,
+    keys: &Keys,
+    suite: Suite,
+    head: &Head,
+    segments: u32,
+) -> Result<Start, StoreError>
     requires least { 16 ≤ segments }
     requires most { segments ≤ 4096 }
     requires head { head.now.count ≡ 0 }
-    ensures start { IfOk result (λ start. IsStart keys.now head.now segments start.commit (placed start.batch.pieces.items) start.batch.segments) }
+    ensures start { IfOk result (λ start. IsStart (store_under keys.now suite) head.now segments start.commit (placed start.batch.pieces.items) start.batch.segments) }
     ensures memory { IfErr result (λ e. e ≡ Memory) }
 {
-    let Ok(table) = seal_table(alloc, keys, &first_space(segments).table()) else {
+    let Ok(table) = seal_table(alloc, keys, suite, &first_space(suite, segments).table()) else {
         return Err(StoreError::Memory);
     };
     let mut batch = Batch::new(alloc, Segments::new(segments));
     let Ok(first) = batch.lay(table, 0) else {
         return Err(StoreError::Memory);
     };
-    let commit = first_commit(head, segments, first);
+    let commit = first_commit(head, suite, segments, first);
     Ok(Start { commit, batch })
 }
 
-impl Store {
+impl OpenLog {
     /// Lays the start of a log on a device whose anchor has the count 0: the segment table, and the checkpoint that names
-    /// it. There are 16 to 4,096 segments. After `Err(Fault)` the start stands or not.
+    /// it, both in the suite of the store. There are 16 to 4,096 segments. After `Err(Fault)` the start stands or not.
     pub fn format<P: Platform>(
         alloc: Global,
         platform: &mut P,
         keys: Keys,
+        suite: Suite,
         segments: u32,
-    ) -> Result<Store, StoreError>
+    ) -> Result<OpenLog, StoreError>
         requires first { IsTrue (P.outside platform.old).tells → (P.outside platform.old).anchor.0 ≡ 0 }
         requires settled { IsSettled P.outside P.crash_states platform.old }
         requires least { 16 ≤ segments }
         requires most { segments ≤ 4096 }
-        ensures store { IfOk result (λ store. store_of store ≡ plain_store keys) }
+        ensures store { IfOk result (λ store. store_of store ≡ store_under keys suite) }
         ensures at_head { IfOk result (λ store. IsAtHead (P.outside platform.new) store) }
         ensures settled { OnOk result (IsSettled P.outside P.crash_states platform.new) }
         // the log has its first text, and no commit
-        ensures added { IsTrue (P.outside platform.old).tells → Added P.outside P.crash_states (plain_store keys) platform.old platform.new (Formatted (plain_store keys) segments) result }
-        ensures knows { IfOk result (λ store. Knows (P.outside platform.new) store (formatted_state (plain_store keys) segments)) }
+        ensures added { IsTrue (P.outside platform.old).tells → Added P.outside P.crash_states (store_under keys suite) platform.old platform.new (Formatted (store_under keys suite) segments) result }
+        ensures knows { IfOk result (λ store. Knows (P.outside platform.new) store (formatted_state (store_under keys suite) segments)) }
         // no piece that the log needs was written over
-        ensures whole { StaysIntact (plain_store keys) (P.outside platform.old) (P.outside platform.new) }
+        ensures whole { StaysIntact (store_under keys suite) (P.outside platform.old) (P.outside platform.new) }
         // nothing is read from the device
         ensures unread { IsTrue (P.outside platform.old).tells → (P.outside platform.new).trace.read ≡ (P.outside platform.old).trace.read }
         // only sealed records and texts go to the device
         ensures sealed { OnlySealed keys (P.outside platform.old) (P.outside platform.new) }
+        // it is a step of a run, which adds no commit
+        ensures steps { RanStep P.outside P.crash_states (store_under keys suite) [] platform.old platform.new result }
         ensures memory { result ≡ Err Memory → platform.new ≡ platform.old }
         ensures fault { result ≡ Err Fault → Rose (P.outside platform.old).faults (P.outside platform.new).faults }
         ensures tells { (P.outside platform.new).tells ≡ (P.outside platform.old).tells }
@@ -139,13 +156,14 @@ impl Store {
         ensures no_fewer { (P.outside platform.old).faults ≤ (P.outside platform.new).faults }
     {
         let head = no_head();
-        let Start { commit, batch } = lay_start(alloc, &keys, &head, segments)?;
+        let Start { commit, batch } = lay_start(alloc, &keys, suite, &head, segments)?;
         let Ok(head) = put_commit(platform, &keys, &head, &commit, &batch.pieces) else {
             return Err(StoreError::Fault);
         };
-        Ok(Store {
+        Ok(OpenLog {
             keys,
             log: Recovered {
+                suite,
                 head,
                 segments: batch.segments,
                 overlay: Overlay::new(alloc),

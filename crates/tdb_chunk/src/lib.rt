@@ -5,19 +5,25 @@
 //! `commit_on` has them, and that a read gives the bytes of the log's state, whatever the device shows.
 #![tactic(auto)]
 
+mod attach;
 mod batch;
 mod changes;
 mod chunk;
 mod commit;
 mod format;
+mod laying;
+mod open_log;
 mod opening;
+mod owner;
 mod reading;
 mod records;
 mod store;
+mod store_chunks;
 #[cfg(test)]
 mod tests;
 mod text;
 
 pub use chunk::Chunk;
 pub use format::StoreError;
-pub use store::Store;
+pub use open_log::OpenLog;
+pub use store::{Room, Store};

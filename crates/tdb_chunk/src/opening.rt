@@ -1,21 +1,21 @@
-//! A store whose log was opened, and what is told of it.
+//! A log that was opened, and what is told of it.
 ghost use Rattle.std.specs.Prelude.{◌≡◌};
 ghost use Rattle.tdb_overlay.specs.Recovered.{HasCounts};
 
-use crate::store::Store;
+use crate::open_log::OpenLog;
 use tdb_overlay::{Keys, Recovered};
 
-impl Store {
-    /// The store of a log that was recovered with these keys.
-    pub fn open(keys: Keys, log: Recovered) -> Store
+impl OpenLog {
+    /// The log that was recovered with these keys.
+    pub fn open(keys: Keys, log: Recovered) -> OpenLog
         requires { HasCounts log }
         ensures keys { result.keys ≡ keys }
         ensures log { result.log ≡ log }
     {
-        Store { keys, log }
+        OpenLog { keys, log }
     }
 
-    /// The count of the last text of the log.
+    /// The count of the last text.
     pub fn count(&self) -> u64
         ensures { result ≡ self.now.log.head.count }
     {

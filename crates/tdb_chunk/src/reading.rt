@@ -11,13 +11,14 @@ ghost use Rattle.tdb_model.specs.declared.error.ReadError.TheVariants as answers
 ghost use Rattle.tdb_seal.specs.SealedRecord.{IsSealedRecord};
 ghost use Rattle.tdb_overlay.specs.Found.{in_trace};
 ghost use Rattle.tdb_overlay.specs.Growth.{IsSettled};
+ghost use Rattle.tdb_overlay.specs.Images.{StandsIn};
 ghost use Rattle.tdb_overlay.specs.Keys.{partition_key};
 ghost use Rattle.tdb_overlay.specs.Reading.{OnlyReads};
 ghost use Rattle.tdb_overlay.specs.StoreState.{StoreState};
 ghost use Rattle.tdb_chunk.specs.Known.{Knows};
-ghost use Rattle.tdb_chunk.specs.Reading.{HasReadPiece, HasReadWhole, IsDamageOf, IsDamagedChunk, IsLate, name_of};
+ghost use Rattle.tdb_chunk.specs.Reading.{HasReadPiece, HasReadWhole, HasShown, IsDamageOf, IsDamagedChunk, IsLate, name_of};
 
-use crate::store::Store;
+use crate::open_log::OpenLog;
 use std::alloc::Global;
 use tdb_base::{PartId, Piece, Rank};
 use tdb_model::ReadError;
@@ -27,7 +28,7 @@ use tdb_seal::{Name, SealError, read_record};
 
 const CHUNK: u32 = 1;
 
-impl Store {
+impl OpenLog {
     /// Reads a chunk: its bytes are those of the log's state, whatever the device shows.
     pub fn read<P: Platform>(
         &self,
@@ -72,7 +73,7 @@ impl Store {
     }
 
     /// Reads the record of a chunk.
-    fn read_chunk<P: Platform>(
+    pub(crate) fn read_chunk<P: Platform>(
         &self,
         alloc: Global,
         platform: &mut P,
@@ -94,6 +95,14 @@ impl Store {
         ensures failed { result ≡ Err answers.Fault → IsTrue (P.outside platform.old).tells → (P.outside platform.new).trace ≡ (P.outside platform.old).trace }
         ensures at_most_once { IsTrue (P.outside platform.old).tells
             → IfErr result (λ error. ((P.outside platform.new).trace ≡ (P.outside platform.old).trace) ⊎ HasReadWhole piece.now (P.outside platform.old) (P.outside platform.new)) }
+        // what was shown with the piece's digest, in a read that gave the chunk and in one of bytes outside the format
+        ensures shown { IsTrue (P.outside platform.old).tells
+            → IfOk result (λ bytes. HasShown piece.now (P.outside platform.old) (P.outside platform.new) (λ shown. Unit {0})) }
+        ensures misshapen { (place : Place) → result ≡ Err (answers.Form place) → (place ≡ piece.now.place)
+            × (IsTrue (P.outside platform.old).tells → HasShown piece.now (P.outside platform.old) (P.outside platform.new) (λ shown. (plain : List ℕ)
+            → IsSealedRecord (partition_key self.now.keys leader.now.home leader.now.birth) (name_of leader.now rank.0) plain shown → ⊥)) }
+        ensures stands { IsTrue (P.outside platform.old).honest → StandsIn (P.outside platform.old).image piece.now → (damage : Damage) → result ≢ Err (answers.Tampered damage) }
+        ensures quiet { result ≢ Err answers.Fault → (P.outside platform.new).faults ≡ (P.outside platform.old).faults }
         ensures late { IfErr result IsLate }
     {
         let bytes = match fetch(alloc, platform, piece) {

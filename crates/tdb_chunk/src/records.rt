@@ -7,6 +7,7 @@ ghost use Rattle.tdb_node.specs.SegmentTable.{IsTable, IsTableValue, table_bytes
 ghost use Rattle.tdb_seal.specs.SealedRecord.{IsSealedRecord};
 ghost use Rattle.tdb_overlay.specs.Keys.{partition_key, system_key};
 ghost use Rattle.tdb_overlay.specs.SealedOnly.{IsRecord};
+ghost use Rattle.tdb_overlay.specs.StoreState.{record_length};
 ghost use Rattle.tdb_chunk.specs.Names.{chunk_name, list_name, table_name};
 
 use crate::chunk::Chunk;
@@ -19,50 +20,58 @@ use tdb_seal::{Name, seal_record};
 
 const CHUNK: u32 = 1;
 
-const TABLE_NAME: Name = Name {
-    kind: 4,
-    suite: Suite::Plain,
-    home: 0,
-    rank: 0,
-};
+const TABLE: u32 = 4;
 
-const LIST_NAME: Name = Name {
-    kind: 5,
-    suite: Suite::Plain,
-    home: 0,
-    rank: 0,
-};
+const LIST: u32 = 5;
 
-/// Seals a segment table.
-pub(crate) fn seal_table(alloc: Global, keys: &Keys, table: &Table) -> Result<Vec<u8>, AllocError>
+/// Seals a segment table in the suite of its store.
+pub(crate) fn seal_table(
+    alloc: Global,
+    keys: &Keys,
+    suite: Suite,
+    table: &Table,
+) -> Result<Vec<u8>, AllocError>
     requires table { IsTable table.now }
     requires value { IsTableValue table.now }
-    ensures sealed { IfOk result (λ bytes. IsSealedRecord (system_key keys.now) table_name (table_bytes table.now) bytes.items) }
+    ensures sealed { IfOk result (λ bytes. IsSealedRecord (system_key keys.now) (table_name suite) (table_bytes table.now) bytes.items) }
     ensures is_record { IfOk result (λ bytes. IsRecord keys.now bytes.items) }
-    ensures size { IfOk result (λ bytes. length bytes.items ≡ 576) }
+    ensures size { IfOk result (λ bytes. length bytes.items ≡ record_length suite 528) }
     ensures known { IsTableValue table.now }
 {
     let table = write_table(alloc, table)?;
-    seal_record(alloc, keys.system(), &TABLE_NAME, &table)
+    let name = Name {
+        kind: TABLE,
+        suite,
+        home: 0,
+        rank: 0,
+    };
+    seal_record(alloc, keys.system(), &name, &table)
 }
 
-/// Seals a list of changes.
+/// Seals a list of changes in the suite of its store.
 pub(crate) fn seal_list(
     alloc: Global,
     keys: &Keys,
+    suite: Suite,
     entries: &[Entry],
 ) -> Result<Vec<u8>, AllocError>
     requires list { IsList entries.now }
     requires values { AllByRecursion IsEntryValue entries.now }
-    ensures sealed { IfOk result (λ bytes. IsSealedRecord (system_key keys.now) list_name (list_bytes entries.now) bytes.items) }
+    ensures sealed { IfOk result (λ bytes. IsSealedRecord (system_key keys.now) (list_name suite) (list_bytes entries.now) bytes.items) }
     ensures is_record { IfOk result (λ bytes. IsRecord keys.now bytes.items) }
-    ensures size { IfOk result (λ bytes. length bytes.items ≡ 64 + 72 * length entries.now) }
+    ensures size { IfOk result (λ bytes. length bytes.items ≡ record_length suite (16 + 72 * length entries.now)) }
 {
     let list = write_list(alloc, entries)?;
-    seal_record(alloc, keys.system(), &LIST_NAME, &list)
+    let name = Name {
+        kind: LIST,
+        suite,
+        home: 0,
+        rank: 0,
+    };
+    seal_record(alloc, keys.system(), &name, &list)
 }
 
-/// Seals a chunk of a partition.
+/// Seals a chunk of a partition in suite plain.
 pub(crate) fn seal_chunk(
     alloc: Global,
     keys: &Keys,

@@ -1,10 +1,10 @@
 //! The first path of a store, against the marks that an independent model of the formats gives. A mark depends on every
 //! byte that was written.
-use crate::{Chunk, Store};
+use crate::{Chunk, OpenLog};
 use std::alloc::Global;
 use std::test::Fail;
-use tdb_base::{Bytes, PartId, Rank};
-use tdb_model::{CommitError, ReadError};
+use tdb_base::{Bytes, PartId, Rank, Suite};
+use tdb_model::{Change, CommitError, ReadError};
 use tdb_overlay::Keys;
 use tdb_platform::{MemoryPlatform, Platform};
 
@@ -20,6 +20,10 @@ const MARKS: [&[u8]; 3] = [
     b"\xe6\x1d\x82\x01\x6b\x95\x24\x90\x6c\x1d\x19\x43\x54\xbb\xfb\x8a\xc8\x4f\xe3\x4f\xec\x29\x61\x61\x7f\x0c\x40\x41\xf1\x32\x83\xe2",
 ];
 
+fn make(part: PartId, suite: Suite) -> Change {
+    Change::Make { part, suite }
+}
+
 /// A device in memory, empty, whose calls with these numbers fail.
 fn device(alloc: Global, fail: &[u64]) -> Result<MemoryPlatform, Fail> {
     let (image, fail) = (Vec::new(alloc), fail.to_vec(alloc)?);
@@ -32,7 +36,7 @@ fn the_first_path_has_the_marks_of_the_model(rt: HostRuntime) -> Result<(), Fail
     let mut platform = device(alloc, &[])?;
     let (count, _) = platform.anchor()?;
     assert_eq!(rt; count, 0);
-    let mut store = Store::format(alloc, &mut platform, Keys::new(&[0; 32]), 16)?;
+    let mut store = OpenLog::format(alloc, &mut platform, Keys::new(&[0; 32]), Suite::Plain, 16)?;
     assert_eq!(rt; platform.anchor()?.1.as_slice(), MARKS[0]);
     assert!(rt; store.may_make());
     if store.may_make() {
@@ -55,6 +59,53 @@ fn the_first_path_has_the_marks_of_the_model(rt: HostRuntime) -> Result<(), Fail
     Ok(())
 }
 
+#[test]
+fn any_changes_have_the_marks_of_the_model(rt: HostRuntime) -> Result<(), Fail> {
+    let alloc = rt.alloc();
+    let mut platform = device(alloc, &[])?;
+    let (count, _) = platform.anchor()?;
+    assert_eq!(rt; count, 0);
+    let mut store = OpenLog::format(alloc, &mut platform, Keys::new(&[0; 32]), Suite::Plain, 16)?;
+    let makes = [make(FIRST, Suite::Plain), make(PartId(2), Suite::Plain)];
+    store.commit(alloc, &mut platform, &makes)?;
+    assert_eq!(rt; platform.anchor()?.1.as_slice(), MARKS[1]);
+    let write = Change::Write {
+        part: FIRST,
+        rank: Rank(1),
+        bytes: Bytes::from(NOTE.to_vec(alloc)?),
+    };
+    store.commit(alloc, &mut platform, &[write])?;
+    assert_eq!(rt; platform.anchor()?.1.as_slice(), MARKS[2]);
+    Ok(())
+}
+
+// A partition under a cipher is made, written, copied and freed by one commit.
+#[test]
+fn a_copy_has_what_the_commit_wrote_before_it(rt: HostRuntime) -> Result<(), Fail> {
+    let alloc = rt.alloc();
+    let mut platform = device(alloc, &[])?;
+    let (count, _) = platform.anchor()?;
+    assert_eq!(rt; count, 0);
+    let mut store = OpenLog::format(alloc, &mut platform, Keys::new(&[0; 32]), Suite::Aes128, 16)?;
+    let (part, rank, copy) = (PartId(3), Rank(0), PartId(4));
+    let bytes = Bytes::from(NOTE.to_vec(alloc)?);
+    let changes = [
+        make(part, Suite::Aes256),
+        Change::Write { part, rank, bytes },
+        Change::Copy {
+            from: part,
+            to: copy,
+        },
+        Change::Free { part, rank },
+    ];
+    store.commit(alloc, &mut platform, &changes)?;
+    let read = store.read(alloc, &mut platform, copy, rank)?;
+    assert_eq!(rt; read.as_slice(), NOTE);
+    let freed = store.read(alloc, &mut platform, part, rank);
+    assert!(rt; matches!(&freed, Err(ReadError::NoChunk)));
+    Ok(())
+}
+
 // Memory isn't wanting where there is enough of it, at the largest chunk of the last rank too.
 #[test]
 fn a_largest_chunk_is_written_and_read(rt: HostRuntime) -> Result<(), Fail> {
@@ -62,7 +113,13 @@ fn a_largest_chunk_is_written_and_read(rt: HostRuntime) -> Result<(), Fail> {
     let mut platform = device(alloc, &[])?;
     let (count, _) = platform.anchor()?;
     assert_eq!(rt; count, 0);
-    let mut store = Store::format(alloc, &mut platform, Keys::new(&[0; 32]), 4_096)?;
+    let mut store = OpenLog::format(
+        alloc,
+        &mut platform,
+        Keys::new(&[0; 32]),
+        Suite::Plain,
+        4_096,
+    )?;
     assert!(rt; store.may_make());
     store.make_partitions(alloc, &mut platform)?;
     let largest = Chunk {

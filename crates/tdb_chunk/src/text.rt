@@ -7,6 +7,7 @@ ghost use Rattle.tdb_mark.specs.CommitFormat.{IsCommitValue, IsInFormat};
 ghost use Rattle.tdb_platform.specs.Outside.{Anchor, Told};
 ghost use Rattle.tdb_platform.specs.CrashStates.{now};
 ghost use Rattle.tdb_overlay.specs.SealedOnly.{IsRecord, OnlySealed};
+ghost use Rattle.tdb_chunk.specs.Stepping.{IsPutStep};
 ghost use Rattle.tdb_chunk.specs.Text.{anchor_of, next_head, text_in_slot, text_of};
 
 use tdb_append::{Head, Laid, put};
@@ -37,7 +38,10 @@ pub(crate) fn put_commit<P: Platform>(
     ensures head { IfOk result (λ next. next ≡ next_head keys.now head.now commit.now) }
     ensures reads { commit_of (commit_key_of keys.now) (text_of keys.now commit.now) ≡ Some commit.now }
     ensures told { Told (P.outside platform.old) (P.outside platform.new) result }
+    ensures quiet { OnOk result ((P.outside platform.new).faults ≡ (P.outside platform.old).faults) }
     ensures sealed { All (λ p. IsRecord keys.now p.bytes) (placed pieces.now) → OnlySealed keys.now (P.outside platform.old) (P.outside platform.new) }
+    ensures steps { All (λ p. IsRecord keys.now p.bytes) (placed pieces.now)
+        → IsPutStep P.outside P.crash_states keys.now commit.now (placed pieces.now) platform.old platform.new result }
 {
     let text = write_commit_with(commit, keys.commit());
     put(platform, head, pieces, &text)

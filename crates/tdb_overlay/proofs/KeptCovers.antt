@@ -1,8 +1,9 @@
 -- What a partition in memory is changed to, and the covers that follow.
-use Rattle.std.proofs.Common.{◌≡◌, ℕ, List, map, Option, Some, None, sym, ◌∙◌, ap}
+use Rattle.std.proofs.Common.{◌≡◌, ℕ, List, [], ◌∷◌, map, Option, Some, None, refl, sym, ◌∙◌, ap}
 use Rattle.std.specs.BTreeMap as tree
 use Rattle.std.specs.BTreeMap.{BTreeMap, UpdatesBy, WritesThrough}
 use Rattle.std.specs.FinMap.{empty, get, insert, remove, from_entries}
+use Rattle.std.specs.List.{AllZip}
 use Rattle.std.specs.Option.{option_map}
 use Rattle.std.specs.Ordering.{nat_cmp}
 use Rattle.tdb_base.specs.declared.piece.Piece.{Piece}
@@ -10,7 +11,7 @@ use Rattle.tdb_model.specs.Memory.{seen_as}
 use Rattle.tdb_model.proofs.MemoryLemmas.{get_seen, seen_inserted, seen_removed, seen_written}
 use Rattle.tdb_overlay.specs.Covering.{Covered, Covers, with_cover, cover_copied}
 use Rattle.tdb_overlay.specs.Memory.{covered_of, covers_in}
-use Rattle.tdb_overlay.specs.declared.overlay.KeptPartition.{KeptPartition}
+use Rattle.tdb_overlay.specs.declared.kept.KeptPartition.{KeptPartition}
 
 pub found_in : (m : BTreeMap ℕ KeptPartition) (covers : Covers) (part : ℕ) (found : Option KeptPartition) → covers_in m ≡ covers → tree.get nat_cmp m part ≡ found → get covers part ≡ option_map covered_of found
 found_in m covers part found is there = sym (ap (λ (s : Covers). get s part) is) ∙ get_seen covered_of m part ∙ ap (option_map covered_of) there
@@ -49,3 +50,15 @@ copied_from_nothing m covers count from to is there = sym (ap (λ (o : Option Co
 -- a map without entries is the empty one
 pub no_edits : (m : BTreeMap ℕ (Option Piece)) → tree.IsEmpty m → seen_as (λ piece. piece) m ≡ empty
 no_edits m is = ap (λ (es : List (ℕ × Option Piece)). from_entries (map {B = ℕ × Option Piece} (λ e. (e.0, e.1)) es)) is
+
+same_partitions : (es fs : List (ℕ × KeptPartition)) → AllZip (λ e f. (f.0 ≡ e.0) × (covered_of f.1 ≡ covered_of e.1)) es fs
+    → map {B = ℕ × Covered} (λ e. (e.0, covered_of e.1)) fs ≡ map {B = ℕ × Covered} (λ e. (e.0, covered_of e.1)) es
+same_partitions [] [] is = refl
+same_partitions [] (f ∷ fs) is = absurd is
+same_partitions (e ∷ es) [] is = absurd is
+same_partitions (e ∷ es) (f ∷ fs) is = λ i. (is.0.0 i, is.0.1 i) ∷ same_partitions es fs is.1 i
+
+-- clones of the partitions are the same covers
+pub cloned_covers : (m n : BTreeMap ℕ KeptPartition) → AllZip (λ e f. (f.0 ≡ e.0) × (covered_of f.1 ≡ covered_of e.1)) m.entries n.entries
+    → covers_in n ≡ covers_in m
+cloned_covers m n is = ap (λ (es : List (ℕ × Covered)). from_entries es) (same_partitions m.entries n.entries is)

@@ -22,4 +22,5 @@ pub mod ReadingLaws
 pub mod RequiredLaws
 pub mod SealedPuts
 pub mod Steps
+pub mod Telling
 pub mod Unmistaken

@@ -102,7 +102,7 @@ module _ (f g : Finds) (finer : Finer f g) where
       adds_stays before c added after (inr commit) = inr (commit.0, commit_stays before c commit.0 after commit.1, commit.2)
 
       pub step_stays : (before : StoreState) (c : Commit) (added : History) (after : StoreState) → IsStep f store before c added after → IsStep g store before c added after
-      step_stays before c added after is = record { used = is.used; suite = is.suite; adds = adds_stays before c added after is.adds }
+      step_stays before c added after is = record { suite = is.suite; adds = adds_stays before c added after is.adds }
 
       pub log_of_stays : (before : StoreState) (chain : List Commit) (history : History) (last : StoreState) → IsLogOf f store before chain history last → IsLogOf g store before chain history last
       log_of_stays before [] history last is = is

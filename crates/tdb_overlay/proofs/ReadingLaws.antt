@@ -1,12 +1,23 @@
 -- Calls that only read, one after another.
-use Rattle.std.proofs.Common.{◌≡◌, ℕ, ◌≤◌, List, IsTrue, Result, refl, sym, ◌∙◌, ap, arith, subst}
+use Rattle.std.proofs.Common.{◌≡◌, ℕ, ◌≤◌, List, IsTrue, Result, refl, sym, ◌∙◌, ap, arith, subst, take, drop, length}
+use Rattle.std.proofs.lemmas.List.{ext_get_or, get_or-drop, get_or-take, length-drop, length-take}
 use Rattle.tdb_base.specs.Trace.{Trace, Extends, with_read}
 use Rattle.tdb_base.proofs.Tracing.{extends_itself, extends_read, extends_along}
 use Rattle.tdb_platform.specs.Outside.{Outside, Anchor, Told}
 use Rattle.tdb_platform.specs.CrashStates.{CrashStates, Elapses, now, LeavesNoMore, LeavesOnly}
+use Rattle.tdb_platform.specs.Image.{Holds}
 use Rattle.tdb_platform.proofs.Moments.{started, goes_on, goes_on_by}
 use Rattle.tdb_overlay.specs.Growth.{IsSettled}
 use Rattle.tdb_overlay.specs.Reading.{OnlyReads}
+
+-- A read of a piece that stands gives it.
+pub shows_held : (image : List ℕ) (at : ℕ) (bytes : List ℕ) → Holds image at bytes → take (length bytes) (drop at image) ≡ bytes
+shows_held image at bytes held =
+    let size : length (take (length bytes) (drop at image)) ≡ length bytes =
+    omega (arith, length-take (length bytes) (drop at image), length-drop at image, held.within) in
+    ext_get_or 0 (take (length bytes) (drop at image)) bytes size
+    (λ k within. get_or-take (length bytes) (drop at image) k 0 (omega (arith, within, size)) ∙ get_or-drop at image k 0
+    ∙ held.bytes k (omega (arith, within, size)))
 
 module _ {D : Type 0} (outside : D → Outside) (crash_states : D → CrashStates)
     (counts : (p : D) (t u : ℕ) (i : List ℕ) (a : Anchor) → t ≤ u → u ≤ (outside p).clock → crash_states p u i a → crash_states p t i a) where

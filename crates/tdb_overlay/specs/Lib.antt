@@ -18,6 +18,7 @@ pub mod Reading
 pub mod Recovered
 pub mod Required
 pub mod RequiredPlaces
+pub mod Reserving
 pub mod SealedOnly
 pub mod Sound
 pub mod StoreState

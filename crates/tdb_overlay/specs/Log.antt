@@ -3,8 +3,6 @@ use Rattle.std.specs.Prelude.{◌≡◌, ◌⊎◌, ◌+◌, ℕ, List, [], ◌�
 use Rattle.std.specs.FinMap.{get}
 use Rattle.tdb_base.specs.declared.piece.Piece.{Piece}
 use Rattle.tdb_base.specs.declared.piece.Place.{Place}
-use Rattle.tdb_base.specs.declared.suite.Suite.{Suite}
-use Rattle.tdb_base.specs.declared.suite.Suite.TheVariants.{Plain, Aes128, Aes256}
 use Rattle.tdb_base.specs.SuiteNumber.{suite_number}
 use Rattle.tdb_base.specs.Trace.{WrittenPiece}
 use Rattle.tdb_list.specs.declared.entry.Entry.{Entry}
@@ -82,15 +80,8 @@ Adds finds store before c added after =
     (IsCheckpointOn finds store before c after × (added ≡ []))
     ⊎ ((changes : List Change) × IsCommitOn finds store before c changes after × (added ≡ (c.count, changes) ∷ []))
 
--- The suites that stores are made under. No store is made under a cipher yet.
-abbrev pub IsInUse : Suite → Type 0
-IsInUse Plain = Unit {0}
-IsInUse Aes128 = ⊥
-IsInUse Aes256 = ⊥
-
 -- A text of the store, with what it adds and the state after it.
 pub record IsStep (finds : Finds) (store : Store) (before : StoreState) (c : Commit) (added : History) (after : StoreState) : Type 0 where
-  pub used : IsInUse store.suite
   pub suite : c.suite ≡ store.suite
   pub adds : Adds finds store before c added after
 

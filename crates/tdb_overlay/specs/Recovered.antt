@@ -6,6 +6,7 @@ use Rattle.tdb_overlay.specs.StoreState.{StoreState}
 use Rattle.tdb_overlay.specs.declared.recovered.Recovered.{Recovered}
 
 pub record IsRecovered (finds : Finds) (store : Store) (r : Recovered) (last : StoreState) : Type 0 where
+  pub suite : r.suite ≡ store.suite
   pub count : r.head.count ≡ last.count
   pub base : r.head.base ≡ last.base
   pub space : r.segments ≡ last.space

@@ -6,6 +6,7 @@ ghost use Rattle.tdb_base.specs.Trace.{with_read};
 ghost use Rattle.tdb_base.specs.declared.piece.Damage.{Damage};
 ghost use Rattle.tdb_platform.specs.Outside.{Rose};
 ghost use Rattle.tdb_overlay.specs.Growth.{IsSettled};
+ghost use Rattle.tdb_overlay.specs.Images.{StandsIn};
 ghost use Rattle.tdb_overlay.specs.Reading.{OnlyReads};
 
 use sha2::{Digest as _, Sha256};
@@ -41,6 +42,10 @@ pub fn fetch<P: Platform>(
     ensures tampered { (damage : Damage) → result ≡ Err (FetchError.Tampered damage) → (damage.place ≡ piece.now.place) × (damage.expected ≡ piece.now.digest)
         × (IsTrue (P.outside platform.old).tells → (bytes : List ℕ) × ((P.outside platform.new).trace ≡ with_read (P.outside platform.old).trace piece.now.place.0 piece.now.length bytes) × (sha256 bytes ≡ damage.found.0) × (damage.found ≢ piece.now.digest)) }
     ensures fault { result ≡ Err FetchError.Fault → Rose (P.outside platform.old).faults (P.outside platform.new).faults }
+    // an honest device tells no damage where the piece stands
+    ensures stands { IsTrue (P.outside platform.old).honest → StandsIn (P.outside platform.old).image piece.now → (damage : Damage) → result ≢ Err (FetchError.Tampered damage) }
+    // with any other answer there was no fault
+    ensures quiet { result ≢ Err FetchError.Fault → (P.outside platform.new).faults ≡ (P.outside platform.old).faults }
     // what failed is in no trace
     ensures failed { result ≡ Err FetchError.Fault → IsTrue (P.outside platform.old).tells → (P.outside platform.new).trace ≡ (P.outside platform.old).trace }
     ensures unread { result ≡ Err FetchError.Memory → platform.new ≡ platform.old }

@@ -7,6 +7,7 @@
 #![tactic(auto)]
 
 mod fetching;
+mod kept;
 mod keys;
 mod laws;
 mod overlay;
@@ -21,6 +22,6 @@ pub use laws::{
     intact_by_required, log_extends, log_is_one, log_stays, log_tells_its_state,
     placing_spares_required,
 };
-pub use overlay::{Leader, Overlay, Seen};
+pub use overlay::{Leader, Overlay, Reserved, Seen};
 pub use recovered::Recovered;
 pub use runs::{put_is_a_step, runs_join, runs_keep};

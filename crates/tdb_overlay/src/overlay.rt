@@ -1,18 +1,22 @@
 //! The partitions as change lists tell them.
-ghost use Rattle.std.specs.Prelude.{◌≡◌, ◌<◌, IfOk, OnOk};
+ghost use Rattle.std.specs.Prelude.{◌≡◌, ◌<◌, ◌≤◌, IfOk, IfSome, OnOk};
 ghost use Rattle.std.specs.FinMap as map;
 ghost use Rattle.std.specs.Option.{option_map};
 ghost use Rattle.tdb_list.specs.ChangeList.{IsList};
 ghost use Rattle.tdb_list.specs.Entry.{IsEntry};
 ghost use Rattle.tdb_overlay.specs.Covering.{no_covers, suite_numbered, cover_written, cover_freed, cover_copied, cover_made, with_cover, noted, noted_all};
-ghost use Rattle.tdb_overlay.specs.Lookup.{leader_of, seen_in, seen_at};
+ghost use Rattle.tdb_overlay.specs.Lookup.{NamesKey, info_told, infos_told, leader_of, seen_in, seen_at};
 ghost use Rattle.tdb_overlay.specs.Memory.{covered_of};
+ghost use Rattle.tdb_overlay.specs.Reserving.{IsReserved};
 
+use crate::kept::KeptPartition;
 use std::alloc::{AllocError, Global};
 use std::collections::BTreeMap;
 use std::marker::Model;
+use std::mem;
 use tdb_base::{PartId, Piece, Rank, Suite};
 use tdb_list::Entry;
+use tdb_model::PartInfo;
 
 // The kinds of the changes.
 const WRITE: u32 = 1;
@@ -56,17 +60,48 @@ pub enum Seen {
 /// Contracts see the finite map of the partitions by their numbers.
 #[derive(Drop)]
 pub struct Overlay {
-    partitions: BTreeMap<u32, KeptPartition>,
+    current: Partitions,
+    spare: Option<Spare>,
 }
 
-/// What is kept of a partition.
+/// What an overlay becomes once the list of a commit is taken in, with all the memory that this takes.
 #[derive(Drop)]
-pub(crate) struct KeptPartition {
-    leader: Leader,
-    edits: BTreeMap<u32, Option<Piece>>,
+pub struct Reserved {
+    next: Partitions,
+    count: u64,
+    entries: Vec<Entry>,
+}
+
+/// The partitions as they were before the last list, and that list. What a commit reserves is made of them, so that
+/// it costs as much as two lists, and not as much as all partitions.
+#[derive(Drop)]
+pub(crate) struct Spare {
+    before: Partitions,
+    count: u64,
+    entries: Vec<Entry>,
+}
+
+/// The partitions by their numbers.
+#[derive(Drop)]
+pub(crate) struct Partitions {
+    by_number: BTreeMap<u32, KeptPartition>,
 }
 
 impl Model for Overlay {
+    ghost use Rattle.tdb_overlay.specs.Covering.{Covers};
+    ghost use Rattle.tdb_overlay.specs.Memory.{coded_covers};
+    ghost use Rattle.tdb_overlay.specs.Reserving.{IsBehind};
+
+    ghost Value = { Covers };
+
+    ghost coded = { coded_covers };
+
+    ghost view = { λ o. o.current };
+
+    ghost invariant = { λ o. IsBehind o.current o.spare };
+}
+
+impl Model for Partitions {
     ghost use Rattle.tdb_overlay.specs.Covering.{Covers};
     ghost use Rattle.tdb_overlay.specs.Memory.{coded_covers, covers_in};
 
@@ -74,7 +109,22 @@ impl Model for Overlay {
 
     ghost coded = { coded_covers };
 
-    ghost view = { λ o. covers_in o.partitions };
+    ghost view = { λ p. covers_in p.by_number };
+}
+
+impl Leader {
+    /// What is told of a partition under its number.
+    fn info(&self, part: PartId) -> PartInfo
+        ensures { result ≡ info_told part self.now }
+    {
+        PartInfo {
+            part,
+            suite: self.suite,
+            parent: PartId(self.parent),
+            born: self.born,
+            next: self.next,
+        }
+    }
 }
 
 // The suite with a number.
@@ -85,6 +135,17 @@ fn suite_of(number: u32) -> Suite
         0 => Suite::Plain,
         1 => Suite::Aes128,
         _ => Suite::Aes256,
+    }
+}
+
+impl Clone for KeptPartition {
+    ghost is_clone = { λ p q. covered_of q ≡ covered_of p };
+
+    fn clone(&self) -> Result<KeptPartition, AllocError> {
+        Ok(KeptPartition {
+            leader: self.leader,
+            edits: self.edits.clone()?,
+        })
     }
 }
 
@@ -139,7 +200,8 @@ impl Overlay {
         ensures { result ≡ no_covers }
     {
         Overlay {
-            partitions: BTreeMap::new(alloc),
+            current: Partitions::new(alloc),
+            spare: None,
         }
     }
 
@@ -147,7 +209,129 @@ impl Overlay {
     ///
     /// Where memory runs out some of them may have been taken in: the value is of no use then.
     pub fn note(&mut self, alloc: Global, count: u64, entries: &[Entry]) -> Result<(), AllocError>
-        requires { IsList entries.now }
+        requires list { IsList entries.now }
+        requires some { 1 ≤ count }
+        ensures ok { OnOk result (self.new ≡ noted_all count self.old entries.now) }
+    {
+        self.spare = None;
+        self.current.note(alloc, count, entries)
+    }
+
+    /// Takes all the memory that the list of a commit with this count needs, and nothing of the list yet.
+    ///
+    /// It costs as much as the list and the one before it. The first time after a `note`, or after what was reserved
+    /// wasn't taken in, it costs as much as all partitions. Fails where memory runs out.
+    pub fn reserve(
+        &mut self,
+        alloc: Global,
+        count: u64,
+        entries: &[Entry],
+    ) -> Result<Reserved, AllocError>
+        requires list { IsList entries.now }
+        requires some { 1 ≤ count }
+        ensures stays { self.new ≡ self.old }
+        ensures same { IfOk result (λ reserved. (reserved.count ≡ count) × (reserved.entries.items ≡ entries.now)) }
+        ensures ready { IfOk result (λ reserved. IsReserved self.old reserved) }
+    {
+        let mut next = self.second(alloc)?;
+        next.note(alloc, count, entries)?;
+        Ok(Reserved {
+            next,
+            count,
+            entries: Vec::from_slice(alloc, entries)?,
+        })
+    }
+
+    /// Takes in the list for which this was reserved. It takes no memory.
+    pub fn take_in(&mut self, reserved: Reserved)
+        requires { IsReserved self.old reserved }
+        ensures { self.new ≡ noted_all reserved.count self.old reserved.entries.items }
+    {
+        let before = mem::replace(&mut self.current, reserved.next);
+        self.spare = Some(Spare {
+            before,
+            count: reserved.count,
+            entries: reserved.entries,
+        });
+    }
+
+    /// What the lists say of a rank. It takes no memory.
+    pub fn get(&self, part: PartId, rank: Rank) -> Seen
+        ensures { result ≡ seen_at self.now part.0 rank.0 }
+    {
+        self.current.get(part, rank)
+    }
+
+    /// What is told of a partition, or `None` where it isn't there. It takes no memory.
+    pub fn leader(&self, part: PartId) -> Option<Leader>
+        ensures found { result ≡ option_map leader_of (map.get self.now part.0) }
+        ensures named { IfSome result NamesKey }
+    {
+        self.current.leader(part)
+    }
+
+    /// What is told of a partition to those who ask, or `None` where it isn't there. It takes no memory.
+    pub fn info(&self, part: PartId) -> Option<PartInfo>
+        ensures { result ≡ option_map (λ p. info_told part (leader_of p)) (map.get self.now part.0) }
+    {
+        match self.current.leader(part) {
+            Some(leader) => Some(leader.info(part)),
+            None => None,
+        }
+    }
+
+    /// The same of each partition, by number.
+    pub fn infos(&self, alloc: Global) -> Result<Vec<PartInfo>, AllocError>
+        ensures { IfOk result (λ infos. infos.items ≡ infos_told self.now) }
+    {
+        self.current.infos(alloc)
+    }
+
+    // The partitions a second time: the spare ones, brought up to date, or a copy where there are none.
+    fn second(&mut self, alloc: Global) -> Result<Partitions, AllocError>
+        ensures stays { self.new ≡ self.old }
+        ensures same { IfOk result (λ second. second ≡ self.old) }
+    {
+        match self.spare.take() {
+            Some(spare) => spare.caught_up(alloc),
+            None => self.current.copied(),
+        }
+    }
+}
+
+impl Spare {
+    // The partitions with the list taken in.
+    fn caught_up(self, alloc: Global) -> Result<Partitions, AllocError>
+        requires list { IsList self.entries.items }
+        requires some { 1 ≤ self.count }
+        ensures { IfOk result (λ next. next ≡ noted_all self.count self.before self.entries.items) }
+    {
+        let mut next = self.before;
+        next.note(alloc, self.count, self.entries.as_slice())?;
+        Ok(next)
+    }
+}
+
+impl Partitions {
+    fn new(alloc: Global) -> Partitions
+        ensures { result ≡ no_covers }
+    {
+        Partitions {
+            by_number: BTreeMap::new(alloc),
+        }
+    }
+
+    fn copied(&self) -> Result<Partitions, AllocError>
+        ensures { IfOk result (λ copy. copy ≡ self.now) }
+    {
+        Ok(Partitions {
+            by_number: self.by_number.clone()?,
+        })
+    }
+
+    fn note(&mut self, alloc: Global, count: u64, entries: &[Entry]) -> Result<(), AllocError>
+        requires list { IsList entries.now }
+        requires some { 1 ≤ count }
         ensures ok { OnOk result (self.new ≡ noted_all count self.old entries.now) }
     {
         for entry in entries {
@@ -156,28 +340,38 @@ impl Overlay {
         Ok(())
     }
 
-    /// What the lists say of a rank. It takes no memory.
-    pub fn get(&self, part: PartId, rank: Rank) -> Seen
+    fn get(&self, part: PartId, rank: Rank) -> Seen
         ensures { result ≡ seen_at self.now part.0 rank.0 }
     {
-        match self.partitions.get(&part.0) {
+        match self.by_number.get(&part.0) {
             Some(partition) => partition.get(rank.0),
             None => Seen::Base,
         }
     }
 
-    /// What is told of a partition, or `None` where it isn't there. It takes no memory.
-    pub fn leader(&self, part: PartId) -> Option<Leader>
-        ensures { result ≡ option_map leader_of (map.get self.now part.0) }
+    fn leader(&self, part: PartId) -> Option<Leader>
+        ensures found { result ≡ option_map leader_of (map.get self.now part.0) }
+        ensures named { IfSome result NamesKey }
     {
-        match self.partitions.get(&part.0) {
+        match self.by_number.get(&part.0) {
             Some(partition) => Some(partition.leader),
             None => None,
         }
     }
 
+    fn infos(&self, alloc: Global) -> Result<Vec<PartInfo>, AllocError>
+        ensures { IfOk result (λ infos. infos.items ≡ infos_told self.now) }
+    {
+        let mut infos = Vec::new(alloc);
+        for (part, partition) in self.by_number.iter() {
+            infos.push(partition.leader.info(PartId(*part)))?;
+        }
+        Ok(infos)
+    }
+
     fn note_entry(&mut self, alloc: Global, count: u64, entry: &Entry) -> Result<(), AllocError>
-        requires { IsEntry entry.now }
+        requires entry { IsEntry entry.now }
+        requires some { 1 ≤ count }
         ensures { OnOk result (self.new ≡ noted count self.old entry.now) }
     {
         match entry.kind {
@@ -196,7 +390,7 @@ impl Overlay {
         requires { rank < 262144 }
         ensures { OnOk result (self.new ≡ with_cover self.old part (option_map (cover_written rank piece) (map.get self.old part))) }
     {
-        match self.partitions.get_mut(&part) {
+        match self.by_number.get_mut(&part) {
             Some(partition) => partition.write(rank, piece),
             None => Ok(()),
         }
@@ -205,13 +399,15 @@ impl Overlay {
     fn free(&mut self, part: u32, rank: u32) -> Result<(), AllocError>
         ensures { OnOk result (self.new ≡ with_cover self.old part (option_map (cover_freed rank) (map.get self.old part))) }
     {
-        match self.partitions.get_mut(&part) {
+        match self.by_number.get_mut(&part) {
             Some(partition) => partition.free(rank),
             None => Ok(()),
         }
     }
 
     fn make(&mut self, alloc: Global, count: u64, entry: &Entry) -> Result<(), AllocError>
+        requires number { (1 ≤ entry.now.part) × (entry.now.part ≤ 4095) }
+        requires some { 1 ≤ count }
         ensures { OnOk result (self.new ≡ map.insert self.old entry.now.part (cover_made count entry.now)) }
     {
         let partition = KeptPartition {
@@ -225,24 +421,24 @@ impl Overlay {
             },
             edits: BTreeMap::new(alloc),
         };
-        self.partitions.insert(entry.part, partition)?;
+        self.by_number.insert(entry.part, partition)?;
         Ok(())
     }
 
     fn copy(&mut self, count: u64, from: u32, to: u32) -> Result<(), AllocError>
         ensures { OnOk result (self.new ≡ with_cover self.old to (option_map (cover_copied count from) (map.get self.old from))) }
     {
-        let Some(source) = self.partitions.get(&from) else {
+        let Some(source) = self.by_number.get(&from) else {
             return Ok(());
         };
         let copy = source.copy(from, count)?;
-        self.partitions.insert(to, copy)?;
+        self.by_number.insert(to, copy)?;
         Ok(())
     }
 
     fn drop_partition(&mut self, part: u32)
         ensures { self.new ≡ map.remove self.old part }
     {
-        let _dropped = self.partitions.remove(&part);
+        let _dropped = self.by_number.remove(&part);
     }
 }

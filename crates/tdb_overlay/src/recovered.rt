@@ -2,12 +2,15 @@
 
 use crate::overlay::Overlay;
 use tdb_append::Head;
+use tdb_base::Suite;
 use tdb_seg::Segments;
 
-/// What is kept in memory of a log that was read from a device: its last text, its segments, and its
-/// partitions.
+/// What is kept in memory of a log that was read from a device: its suite, its last text, its segments,
+/// and its partitions.
 #[derive(Drop)]
 pub struct Recovered {
+    /// The suite of the log's texts. A store's log has one.
+    pub suite: Suite,
     /// The last text of the chain, which the anchor names.
     pub head: Head,
     /// The segments in use, and where the next piece goes.

@@ -1,5 +1,9 @@
 //! Keys, overlays and fetches against values from outside.
-use crate::{FetchError, Keys, Leader, Overlay, Seen, fetch, fetch_text};
+ghost use Rattle.std.specs.Prelude.{◌≡◌, IfOk};
+ghost use Rattle.tdb_list.specs.ChangeList.{IsList};
+ghost use Rattle.tdb_overlay.specs.Reserving.{IsReserved};
+
+use crate::{FetchError, Keys, Leader, Overlay, Reserved, Seen, fetch, fetch_text};
 use std::alloc::{AllocError, Global};
 use std::test::Fail;
 use tdb_base::{Damage, Digest, PartId, Piece, Place, Rank, Suite};
@@ -248,4 +252,121 @@ fn damaged(place: u64, expected: Digest, found: Digest) -> Result<[u8; 256], Fet
         expected,
         found,
     }))
+}
+
+fn make_of(part: u32) -> Entry {
+    Entry {
+        suite: 1,
+        ..entry_of(3, part, 0)
+    }
+}
+
+// Reserves a list, and once more where memory ran out.
+fn reserve_again(
+    alloc: Global,
+    overlay: &mut Overlay,
+    count: u64,
+    entries: &[Entry],
+) -> Result<Reserved, AllocError>
+    requires { IsList entries.now }
+    ensures stays { overlay.new ≡ overlay.old }
+    ensures ready { IfOk result (λ reserved. IsReserved overlay.old reserved) }
+{
+    match overlay.reserve(alloc, count, entries) {
+        Ok(reserved) => Ok(reserved),
+        Err(_) => overlay.reserve(alloc, count, entries),
+    }
+}
+
+fn tells_the_same(overlay: &Overlay, other: &Overlay) -> bool {
+    for part in 1..10 {
+        if overlay.leader(PartId(part)) != other.leader(PartId(part)) {
+            return false;
+        }
+        for rank in 0..10 {
+            let (part, rank) = (PartId(part), Rank(rank));
+            if overlay.get(part, rank) != other.get(part, rank) {
+                return false;
+            }
+        }
+    }
+    true
+}
+
+// Takes one list in both ways. What is reserved and not taken in isn't seen.
+fn takes_in_as_noted(
+    alloc: Global,
+    taken: &mut Overlay,
+    noted: &mut Overlay,
+    count: u64,
+    list: (Entry, Entry, Entry),
+) -> Result<bool, AllocError> {
+    let (first, second, third) = list;
+    if !(first.is_well_formed() && second.is_well_formed() && third.is_well_formed()) {
+        return Ok(false);
+    }
+    let _dropped = reserve_again(alloc, taken, count, &[third, second, first])?;
+    let entries = [first, second, third];
+    let reserved = reserve_again(alloc, taken, count, &entries)?;
+    if !tells_the_same(taken, noted) {
+        return Ok(false);
+    }
+    taken.take_in(reserved);
+    noted.note(alloc, count, &entries)?;
+    Ok(tells_the_same(taken, noted))
+}
+
+#[test]
+fn a_reserved_list_is_taken_in_as_it_is_noted(rt: HostRuntime) -> Result<(), Fail> {
+    let alloc = rt.alloc();
+    let (one, two) = (
+        piece_of(300_000, 51, OF_ABC),
+        piece_of(300_051, 49, OF_NOTHING),
+    );
+    let lists = [
+        // made, written and copied in one list
+        (2, (make_of(7), write_of(7, 5, one), entry_of(4, 7, 8))),
+        // a copy goes its own way
+        (
+            3,
+            (write_of(8, 5, two), write_of(7, 9, one), entry_of(4, 8, 3)),
+        ),
+        // of one rank the last entry stands
+        (
+            4,
+            (write_of(7, 5, two), entry_of(2, 7, 5), write_of(3, 6, two)),
+        ),
+        (
+            5,
+            (entry_of(2, 8, 5), write_of(8, 5, one), entry_of(2, 8, 2)),
+        ),
+        // dropped, and made again
+        (6, (entry_of(5, 7, 0), make_of(7), write_of(7, 0, two))),
+        // nothing is taken in where there is no partition
+        (
+            7,
+            (entry_of(5, 3, 0), write_of(3, 1, one), entry_of(4, 3, 4)),
+        ),
+        (8, (make_of(4), write_of(4, 1, two), entry_of(5, 4, 0))),
+    ];
+    let mut noted = Overlay::new(alloc);
+    let mut taken = Overlay::new(alloc);
+    for (count, list) in lists {
+        assert!(rt;
+            takes_in_as_noted(alloc, &mut taken, &mut noted, count, list)?,
+            "count {count}"
+        );
+    }
+    let told = [
+        (7, 0, Seen::Here(two)),
+        (7, 9, Seen::Base),
+        (8, 5, Seen::Here(one)),
+        (8, 2, Seen::Gone),
+        (3, 6, Seen::Base),
+        (4, 1, Seen::Base),
+    ];
+    for (part, rank, seen) in told {
+        assert_eq!(rt; taken.get(PartId(part), Rank(rank)), seen, "{part} {rank}");
+    }
+    Ok(())
 }

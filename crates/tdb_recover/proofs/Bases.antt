@@ -39,6 +39,7 @@ pub record BaseStep (written : List WrittenPiece) (log : WholeLog) (base : Commi
   pub before : StoreState
   pub after : StoreState
   pub history : History
+  pub suite : base.suite ≡ log.store.suite
   pub checkpoint : IsCheckpointOn (in_trace written) log.store before base after
   pub tells : IsLogOf (in_trace written) log.store after later history log.last
 
@@ -51,7 +52,7 @@ module _ (written : List WrittenPiece) (trace : Trace) (secret : List ℕ) (log 
   base_by before added after history step tells = by_kind step.adds
     where
       by_kind : ((IsCheckpointOn (in_trace written) log.store before base after × (added ≡ [])) ⊎ ((changes : List Change) × IsCommitOn (in_trace written) log.store before base changes after × (added ≡ (base.count, changes) ∷ []))) → BaseStep written log base later
-      by_kind (inl checkpoint) = record { before = before; after = after; history = history; checkpoint = checkpoint.0; tells = tells }
+      by_kind (inl checkpoint) = record { before = before; after = after; history = history; suite = step.suite; checkpoint = checkpoint.0; tells = tells }
       by_kind (inr commit) = absurd (no_commit base format own commit.1.kind)
 
   pub base_step : BaseStep written log base later
@@ -102,14 +103,15 @@ module _ (written : List WrittenPiece) (trace : Trace) (secret : List ℕ) (log 
       }
 
   -- what is kept after the last one
-  pub is_recovered : (count : ℕ) (mark : List ℕ) (r : Recovered) → 0 < count → log.anchor ≡ (count, mark) → r.head.count ≡ count → r.head.base ≡ base.count → IsReplayOf (needed written log.store log.anchor) log.store r log.last
+  pub is_recovered : (count : ℕ) (mark : List ℕ) (r : Recovered) → 0 < count → log.anchor ≡ (count, mark) → r.head.count ≡ count → r.head.base ≡ base.count → r.suite ≡ base.suite
+      → IsReplayOf (needed written log.store log.anchor) log.store r log.last
       → IsRecovered (needed written log.store log.anchor) log.store r log.last
-  is_recovered count mark r some at counted based kept =
+  is_recovered count mark r some at counted based suited kept =
       let last = newest written trace secret log given count mark at some in
       let counts = newest_counts written trace secret log given count mark some last in
       let all = counts_of (in_trace written) log.store last.front last.commit log.chain log.history log.last last.parts
       (chain_in_format written (commit_key_of secret) log.anchor.0 log.anchor.1 log.chain given.ends) given.tells in
-      record { count = counted ∙ sym counts.2; base = based ∙ sym own ∙ sym ends.base ∙ all.base; space = kept.space; chunks = kept.chunks }
+      record { suite = suited ∙ base_step.suite; count = counted ∙ sym counts.2; base = based ∙ sym own ∙ sym ends.base ∙ all.base; space = kept.space; chunks = kept.chunks }
 
 -- The chain was read, and then the table of its checkpoint. What is kept then is where the lists begin.
 module _ {D : Type 0} (outside : D → Outside) (states : D → CrashStates) (numbered : (p : D) → IsTrue (outside p).tells → IsNumbered (outside p).trace)

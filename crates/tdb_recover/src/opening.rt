@@ -57,6 +57,7 @@ fn open_log<P: Platform>(
     }
     let segments = read_segments(alloc, platform, keys, &base)?;
     let mut log = Recovered {
+        suite: base.suite,
         head: Head {
             count,
             mark,

@@ -1,5 +1,5 @@
 //! The lists of a log, taken in one after another.
-ghost use Rattle.std.specs.Prelude.{◌≡◌, List, reverse, Ok, Err, OnOk, IfErr, IsTrue};
+ghost use Rattle.std.specs.Prelude.{◌≡◌, ◌≤◌, List, reverse, Ok, Err, OnOk, IfErr, IsTrue};
 ghost use Rattle.std.specs.List.{AllByRecursion};
 ghost use Rattle.tdb_model.specs.declared.change.Change.{Change};
 ghost use Rattle.tdb_overlay.specs.Changes.{named_records};
@@ -54,8 +54,10 @@ fn replay_list<P: Platform>(
     log: &mut Recovered,
     text: &Commit,
 ) -> Result<(), OpenError>
+    requires { 1 ≤ text.now.count }
     ensures reads { OnlyReads P.outside P.crash_states platform.old platform.new }
     ensures head { OnOk result (log.new.head ≡ log.old.head) }
+    ensures suite { OnOk result (log.new.suite ≡ log.old.suite) }
     ensures replayed { IsTrue (P.outside platform.old).tells → OnOk result ((store : Store) (anchor : Anchor) (before : StoreState) (changes : List Change) (after : StoreState)
         → IsCommitIn (P.outside platform.old).trace.written (P.outside platform.new).trace keys.now store anchor before text.now changes after
         → IsReplayOf (needed (P.outside platform.old).trace.written store anchor) store log.old before → IsReplayOf (needed (P.outside platform.old).trace.written store anchor) store log.new after) }
@@ -86,6 +88,7 @@ pub(crate) fn replay<P: Platform>(
     requires commits { AllByRecursion (IsBehind chain.base) (reverse chain.commits.items) }
     ensures reads { OnlyReads P.outside P.crash_states platform.old platform.new }
     ensures head { OnOk result (log.new.head ≡ log.old.head) }
+    ensures suite { OnOk result (log.new.suite ≡ log.old.suite) }
     ensures replayed { OnOk result (EachLog (P.outside platform.old) (P.outside platform.new) keys.now (λ whole.
         IsRest (P.outside platform.old).trace.written whole (reverse chain.commits.items) log.old
         → EndsWith (P.outside platform.old).trace.written keys.now whole.chain chain.base (reverse chain.commits.items)

@@ -2,8 +2,9 @@ use Rattle.std.proofs.Common.{inl, List, ℕ, refl, ◌∙◌, ap, length, arith
 use Rattle.std.proofs.lemmas.Result.{IfOk-weaker}
 use Rattle.tdb_node.specs.SegmentTable.{table_bytes}
 use Rattle.tdb_node.proofs.TableSpelling.{length-table_bytes}
-use Rattle.tdb_seal.proofs.RecordSpelling.{length-sealed_record}
+use Rattle.tdb_overlay.proofs.Lengths.{sealed_length}
 use Rattle.tdb_overlay.specs.Keys.{system_key}
+use Rattle.tdb_overlay.specs.StoreState.{record_length}
 use Rattle.tdb_chunk.specs.Names.{table_name}
 use Rattle.tdb_chunk.proofs.Sealing.{sealed_as}
 use Rattle.tdb_chunk.proofs.records.seal_table.Goals as goal
@@ -16,19 +17,19 @@ pub returns-clause-sealed : goal.returns-clause-sealed
 returns-clause-sealed c =
     let plain : List ℕ = table_bytes c.args.table.now in
     IfOk-weaker c.seal_record.result _ _
-    (λ bytes sealed. sealed_as (system_key c.args.keys.now) c.system.result.now.0 table_name plain c.deref.result.now bytes.items c.system.ensures (c.deref.ensures.value ∙ c.in_ok-table.ensures) sealed)
+    (λ bytes sealed. sealed_as (system_key c.args.keys.now) c.system.result.now.0 (table_name c.args.suite) plain c.deref.result.now bytes.items c.system.ensures (c.deref.ensures.value ∙ c.in_ok-table.ensures) sealed)
     c.seal_record.ensures
 
 pub returns-clause-is_record : goal.returns-clause-is_record
 returns-clause-is_record c =
     let plain : List ℕ = table_bytes c.args.table.now in
     IfOk-weaker c.seal_record.result _ _
-    (λ bytes sealed. record { name = table_name; key = system_key c.args.keys.now; plain = plain; key_for = inl ((refl, refl, inl refl), refl); sealed = sealed })
+    (λ bytes sealed. record { name = table_name c.args.suite; key = system_key c.args.keys.now; plain = plain; key_for = inl ((refl, refl, inl refl), refl); sealed = sealed })
     (returns-clause-sealed c)
 
 pub returns-clause-size : goal.returns-clause-size
 returns-clause-size c =
     let plain : List ℕ = table_bytes c.args.table.now in
     IfOk-weaker c.seal_record.result _ _
-    (λ bytes sealed. omega (arith, length-sealed_record (system_key c.args.keys.now) table_name plain bytes.items sealed, length-table_bytes c.args.table.now c.requires.value))
+    (λ bytes sealed. sealed_length (system_key c.args.keys.now) (table_name c.args.suite) plain bytes.items sealed ∙ ap (record_length c.args.suite) (length-table_bytes c.args.table.now c.requires.value))
     (returns-clause-sealed c)

@@ -1,12 +1,19 @@
-use Rattle.std.proofs.Common.{◌≡◌, Some, List, ℕ, sym, ◌∙◌, ap, ◌+◌}
+use Rattle.std.proofs.Common.{◌≡◌, Some, List, [], ◌∷◌, ◌++◌, ℕ, sym, ◌∙◌, ap, subst, ◌+◌}
+use Rattle.std.specs.Prelude.{OnOk}
+use Rattle.sha2.specs.Sha256.{sha256}
 use Rattle.tdb_append.specs.Placed.{Placed, placed}
-use Rattle.tdb_append.specs.Put.{slot_place}
+use Rattle.tdb_append.specs.Put.{Puts, slot_place}
 use Rattle.tdb_mark.specs.declared.commit.Commit.{Commit}
 use Rattle.tdb_mark.specs.CommitFormat.{IsCommitValue, IsInFormat}
 use Rattle.tdb_mark.specs.CommitText.{commit_key_of, commit_of, commit_text}
 use Rattle.tdb_mark.proofs.TextLemmas.{commit_of-commit_text}
+use Rattle.tdb_platform.specs.Outside.{Anchor}
+use Rattle.tdb_platform.specs.CrashStates.{now}
+use Rattle.tdb_overlay.specs.NextText.{IsLaidText}
 use Rattle.tdb_overlay.specs.SealedOnly.{IsTextInSlot}
-use Rattle.tdb_chunk.proofs.Laying.{put_sealed}
+use Rattle.tdb_overlay.proofs.PutRan.{put_ran}
+use Rattle.tdb_chunk.specs.Formatting.{store_under}
+use Rattle.tdb_chunk.proofs.Placing.{put_sealed}
 use Rattle.tdb_chunk.proofs.text.put_commit.Goals as goal
 
 pub returns-clause-sealed : goal.returns-clause-sealed
@@ -29,3 +36,32 @@ reads_back secret commit value in_format = commit_of-commit_text (commit_key_of 
 
 pub returns-clause-reads : goal.returns-clause-reads
 returns-clause-reads g c = reads_back c.args.keys.now c.args.commit.now c.requires.value c.requires.in_format
+
+pub returns-clause-steps : goal.returns-clause-steps
+returns-clause-steps g c records suite added settled goes =
+    let outside = g.P.Platform.outside in
+    let crash_states = g.P.Platform.crash_states in
+    let old = c.args.platform.now in
+    let new = c.put.new.platform in
+    let secret : List ℕ = c.args.keys.now in
+    let commit = c.args.commit.now in
+    let text : List ℕ = c.write_commit_with-text.result in
+    let ps : List Placed = placed c.args.pieces.now in
+    let spelled : text ≡ commit_text (commit_key_of secret) commit =
+    c.write_commit_with-text.ensures ∙ ap (λ (key : List ℕ). commit_text key commit) c.commit.ensures in
+    let laid : IsLaidText secret text commit ps = record {
+      value = c.requires.value;
+      accepted = subst (λ (bytes : List ℕ). commit_of (commit_key_of secret) bytes ≡ Some commit) (sym spelled)
+          (reads_back secret commit c.requires.value c.requires.in_format);
+      records = records;
+      in_segments = c.requires.in_segments;
+      apart = c.requires.apart;
+    } in
+    let next = sym c.requires.next_count in
+    put_ran outside crash_states g.met.P.Platform.counts g.met.P.Platform.numbered (store_under secret suite) old new text commit ps added
+    laid settled goes c.put.result
+    (subst (λ (n : ℕ). Puts outside crash_states old new (ps ++ record { place = slot_place n; bytes = text } ∷ []) (n, sha256 text)
+    c.put.result) next c.put.ensures.puts) c.put.ensures.told
+    (λ tells. subst (λ (n : ℕ). OnOk c.put.result ((outside new).anchor ≡ (n, sha256 text))) next (c.put.ensures.advanced tells))
+    (λ tells. subst (λ (n : ℕ). OnOk c.put.result ((i : List ℕ) (a : Anchor) → now outside crash_states new i a → a ≡ (n, sha256 text)))
+    next (c.put.ensures.only tells))

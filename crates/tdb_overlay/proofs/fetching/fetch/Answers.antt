@@ -1,4 +1,4 @@
-use Rattle.std.proofs.Common.{◌≡◌, ◌≢◌, List, ℕ, IsTrue, refl, sym, ◌∙◌, ap, subst}
+use Rattle.std.proofs.Common.{◌≡◌, ◌≢◌, List, ℕ, IsTrue, refl, sym, ◌∙◌, ap, subst, take, drop}
 use Rattle.std.proofs.lemmas.Grind.{common_steps}
 use Rattle.std.proofs.Common.{arith}
 use Rattle.std.proofs.lemmas.Bool.{false≢true}
@@ -7,7 +7,7 @@ use Rattle.sha2.specs.Sha256.{sha256}
 use Rattle.tdb_base.specs.declared.piece.Damage.{Damage}
 use Rattle.tdb_base.specs.declared.piece.Digest.{Digest}
 use Rattle.tdb_base.specs.Trace.{with_read}
-use Rattle.tdb_overlay.proofs.ReadingLaws.{reads_nothing, reads_none, reads_one}
+use Rattle.tdb_overlay.proofs.ReadingLaws.{reads_nothing, reads_none, reads_one, shows_held}
 use Rattle.tdb_overlay.proofs.fetching.fetch.Goals as goal
 
 pub returns-then-eq-clause-digest : goal.returns-then-eq-clause-digest
@@ -45,3 +45,15 @@ returns-else-eq-clause-tampered g c damage is =
     subst (λ (d : Damage). (d.place ≡ piece.place) × (d.expected ≡ piece.digest)
     × (IsTrue (outside c.args.platform.now).tells → (b : List ℕ) × ((outside c.read.new.self).trace ≡ with_read (outside c.args.platform.now).trace piece.place.0 piece.length b) × (sha256 b ≡ d.found.0) × (d.found ≢ piece.digest)))
     same (refl, refl, λ t. (bytes, read t, hashed, differs))
+
+pub returns-else-eq-clause-stands : goal.returns-else-eq-clause-stands
+returns-else-eq-clause-stands g c honest stands damage is =
+    let piece = c.args.piece.now in
+    let image = (g.P.Platform.outside c.args.platform.now).image in
+    let given = c.in-Ok-read.ensures.piece honest in
+    let asked : c.truncate.new.self.items ≡ take piece.length (drop piece.place.0 image) = grind (arith, common_steps) in
+    let whole : take piece.length (drop piece.place.0 image) ≡ stands.bytes =
+    ap (λ (n : ℕ). take n (drop piece.place.0 image)) (sym stands.size) ∙ shows_held image piece.place.0 stands.bytes stands.holds in
+    let hashed : c.digest.result ≡ piece.digest.0 =
+    c.digest.ensures ∙ ap sha256 c.as_slice.ensures.value ∙ ap sha256 (asked ∙ whole) ∙ stands.digest in
+    false≢true (c.if-eq.ensures ∙ (bytes_eq-Decides c.digest.result piece.digest.0).1 hashed)

@@ -34,7 +34,7 @@ returns-clause-recovered g c t whole given at =
     let keys = c.args.keys.now in
     let chain = c.in_ok-chain.chain in
     let later = reverse chain.commits.items in
-    let r : Recovered = record { head = record { count = c.args.count; mark = c.args.mark; base = chain.base.count }; segments = c.in_ok-segments.segments; overlay = c.new.result } in
+    let r : Recovered = record { suite = chain.base.suite; head = record { count = c.args.count; mark = c.args.mark; base = chain.base.count }; segments = c.in_ok-segments.segments; overlay = c.new.result } in
     let told = tells_then outside states old then both t in
     let ends = c.in_ok-chain.ensures.ends t whole (given_at_chain outside states numbered old mid then new first second both c.replay.ensures.reads t keys whole given) at in
     let rest = rest_begins outside states numbered old mid then new first second both c.replay.ensures.reads t keys whole given chain.base later c.in_ok-chain.ensures.format c.in_ok-chain.ensures.base ends r
@@ -43,7 +43,7 @@ returns-clause-recovered g c t whole given at =
     (written_then outside states old then both t (λ ws. EndsWith ws keys whole.chain chain.base later) ends) in
     let head : c.replay.new.log.head ≡ r.head = c.in_ok-replay.ensures.head in
     is_recovered (outside old).trace.written (outside new).trace keys whole given chain.base later c.in_ok-chain.ensures.format c.in_ok-chain.ensures.base ends c.args.count c.args.mark.0 c.replay.new.log c.requires at
-    (ap (λ (h : Head). h.count) head) (ap (λ (h : Head). h.base) head)
+    (ap (λ (h : Head). h.count) head) (ap (λ (h : Head). h.base) head) c.in_ok-replay.ensures.suite
     (written_back outside states old then both t (λ ws. IsReplayOf (needed ws whole.store whole.anchor) whole.store c.replay.new.log whole.last) kept)
 
 pub returns-then-is_some-clause-explained : goal.returns-then-is_some-clause-explained
@@ -109,7 +109,7 @@ returns-in_err-replay-clause-explained g c =
     let keys = c.args.keys.now in
     let chain = c.in_ok-chain.chain in
     let later = reverse chain.commits.items in
-    let r : Recovered = record { head = record { count = c.args.count; mark = c.args.mark; base = chain.base.count }; segments = c.in_ok-segments.segments; overlay = c.new.result } in
+    let r : Recovered = record { suite = chain.base.suite; head = record { count = c.args.count; mark = c.args.mark; base = chain.base.count }; segments = c.in_ok-segments.segments; overlay = c.new.result } in
     if_err_and c.from_residual-in_err-replay.result _ _ c.from_residual-in_err-replay.ensures.1
     (λ e is t whole given at.
     let told = tells_then outside states old then both t in
@@ -150,7 +150,7 @@ returns-clause-only g c t whole given at =
     let later = reverse chain.commits.items in
     let format = c.in_ok-chain.ensures.format in
     let own = c.in_ok-chain.ensures.base in
-    let r : Recovered = record { head = record { count = c.args.count; mark = c.args.mark; base = chain.base.count }; segments = c.in_ok-segments.segments; overlay = c.new.result } in
+    let r : Recovered = record { suite = chain.base.suite; head = record { count = c.args.count; mark = c.args.mark; base = chain.base.count }; segments = c.in_ok-segments.segments; overlay = c.new.result } in
     let told = tells_then outside states old then both t in
     let pieces = IsOpeningPiece (outside old).trace.written whole.store whole.anchor in
     let at_chain = given_at_chain outside states numbered old mid then new first second both c.replay.ensures.reads t keys whole given in

@@ -20,6 +20,7 @@ pub loop-text-init : goal.loop-text-init
 loop-text-init g c = record {
   reads = reads_nothing g.P.Platform.outside g.P.Platform.crash_states g.met.P.Platform.counts c.args.platform.now;
   head = refl;
+  suite = refl;
   done = ([], refl);
   behind = c.requires.commits;
   rest = λ t whole given rest ends. rest;
@@ -30,6 +31,14 @@ loop-text-init g c = record {
 
 pub loop-text-smaller : goal.loop-text-smaller
 loop-text-smaller g c = omega (arith, c.in-Some.ensures.len)
+
+pub replay_list-requires : goal.replay_list-requires
+replay_list-requires g c =
+    let left = c.pop.new.self.items in
+    let base = c.args.chain.base in
+    let popped : reverse c.loop-text.commits.items ≡ c.in-Some.text ∷ reverse left = ap (λ (l : List Commit). reverse l) c.in-Some.ensures.items ∙ reverse_push left c.in-Some.text in
+    let behind : AllByRecursion (IsBehind base) (c.in-Some.text ∷ reverse left) = subst (AllByRecursion (IsBehind base)) popped c.loop-text.invariant.behind in
+    omega (arith, behind.0.later)
 
 pub loop-text-preserved : goal.loop-text-preserved
 loop-text-preserved g c =
@@ -49,6 +58,7 @@ loop-text-preserved g c =
     record {
       reads = reads_then outside states g.met.P.Platform.counts old mid new first c.replay_list.ensures.reads;
       head = c.in_ok-replay_list.ensures.head ∙ so_far.head;
+      suite = c.in_ok-replay_list.ensures.suite ∙ so_far.suite;
       done = (so_far.done.0 ++ text ∷ [], so_far.done.1 ∙ ap (λ (l : List Commit). so_far.done.0 ++ l) popped ∙ sym (append_assoc so_far.done.0 (text ∷ []) (reverse left)));
       behind = behind.1;
       rest = λ t whole given rest ends.
@@ -122,6 +132,9 @@ returns-clause-reads g c = c.loop-text.invariant.reads
 
 pub returns-clause-head : goal.returns-clause-head
 returns-clause-head g c = c.loop-text.invariant.head
+
+pub returns-clause-suite : goal.returns-clause-suite
+returns-clause-suite g c = c.loop-text.invariant.suite
 
 pub returns-clause-replayed : goal.returns-clause-replayed
 returns-clause-replayed g c t whole given rest ends =

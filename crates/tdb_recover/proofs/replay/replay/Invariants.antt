@@ -10,6 +10,7 @@ abbrev pub invariant-loop-text : goal.invariant-loop-text
 invariant-loop-text g l = record {
   reads : OnlyReads g.P.Platform.outside g.P.Platform.crash_states l.fn.platform l.platform;
   head : l.log.head ≡ l.fn.log.head;
+  suite : l.log.suite ≡ l.fn.log.suite;
   done : (done : List Commit) × (reverse l.fn.chain.commits.items ≡ done ++ reverse l.commits.items);
   behind : AllByRecursion (IsBehind l.fn.chain.base) (reverse l.commits.items);
   rest : EachLog (g.P.Platform.outside l.fn.platform) (g.P.Platform.outside l.platform) l.keys (λ whole.

@@ -1,0 +1,6 @@
+use Rattle.std.proofs.Common.{◌∙◌}
+use Rattle.tdb_overlay.proofs.KeptCovers.{cloned_covers}
+use Rattle.tdb_overlay.proofs.overlay.Partitions.copied.Goals as goal
+
+pub returns : goal.returns
+returns c = cloned_covers c.self.inside.by_number c.in_ok-clone.field-0 c.in_ok-clone.ensures.cases ∙ c.self.view_is
