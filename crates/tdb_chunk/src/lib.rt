@@ -14,8 +14,6 @@ mod opening;
 mod reading;
 mod records;
 mod store;
-#[cfg(test)]
-mod tests;
 mod text;
 
 pub use chunk::Chunk;

@@ -1,9 +1,9 @@
 //! Keys, overlays and fetches against values from outside.
-use crate::{FetchError, Keys, Leader, Overlay, Seen, fetch, fetch_text};
 use std::alloc::{AllocError, Global};
 use std::test::Fail;
 use tdb_base::{Damage, Digest, PartId, Piece, Place, Rank, Suite};
 use tdb_list::Entry;
+use tdb_overlay::{FetchError, Keys, Leader, Overlay, Seen, fetch, fetch_text};
 use tdb_platform::MemoryPlatform;
 
 const NOWHERE: Piece = Piece {
