@@ -10,8 +10,6 @@
 mod append;
 mod head;
 mod laid;
-#[cfg(test)]
-mod tests;
 
 pub use append::{put, slot_of};
 pub use head::{COMMITS_PER_CHECKPOINT, Head, HeadError, may_commit};

@@ -19,8 +19,6 @@ mod reading;
 mod records;
 mod store;
 mod store_chunks;
-#[cfg(test)]
-mod tests;
 mod text;
 
 pub use chunk::Chunk;

@@ -13,8 +13,6 @@ mod error;
 mod laws;
 mod memory;
 mod memory_chunks;
-#[cfg(test)]
-mod tests;
 
 pub use change::{CHANGE_LIMIT, CHUNK_LIMIT, Change, PARTITION_LIMIT, PartInfo, RANK_LIMIT, Side};
 pub use checking::{Partitions, check_each};

@@ -13,8 +13,6 @@ mod laws;
 mod overlay;
 mod recovered;
 mod runs;
-#[cfg(test)]
-mod tests;
 
 pub use fetching::{FetchError, fetch, fetch_text};
 pub use keys::Keys;

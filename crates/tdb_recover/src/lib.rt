@@ -8,13 +8,9 @@
 #![tactic(auto)]
 
 mod error;
-#[cfg(test)]
-mod first_path;
 mod opening;
 mod records;
 mod replay;
-#[cfg(test)]
-mod tests;
 mod texts;
 
 pub use error::OpenError;

@@ -12,7 +12,7 @@ const MOST_SEGMENTS: u64 = 4096;
 
 /// A command of the program.
 #[derive(Clone, Copy, Debug, PartialEq, Eq)]
-pub(crate) enum Command {
+pub enum Command {
     /// `start plain SEGMENTS` makes a store of so many segments and answers a script.
     Start(u32),
     /// `format plain SEGMENTS` makes a store of so many segments.
@@ -22,7 +22,7 @@ pub(crate) enum Command {
 }
 
 /// Reads the words of a command, or `None` where they are none.
-pub(crate) fn read_command(words: &[&str]) -> Option<Command>
+pub fn read_command(words: &[&str]) -> Option<Command>
     ensures found { IfSome result (IsCommandOf (texts words.now)) }
     ensures none { IfNone result (IsNoCommand (texts words.now)) }
 {
@@ -75,33 +75,5 @@ fn read_size(word: &[u8]) -> Option<u32>
         Some(segments as u32)
     } else {
         None
-    }
-}
-
-#[cfg(test)]
-mod tests {
-    use super::*;
-    use std::test::Fail;
-
-    #[test]
-    fn words_are_one_command_or_none(rt: HostRuntime) -> Result<(), Fail> {
-        let table: [(&[&str], Option<Command>); 12] = [
-            (&["start", "plain", "16"], Some(Command::Start(16))),
-            (&["start", "plain", "4096"], Some(Command::Start(4096))),
-            (&["format", "plain", "17"], Some(Command::Format(17))),
-            (&["run"], Some(Command::Run)),
-            (&[], None),
-            (&["start", "plain"], None),
-            (&["start", "plain", "15"], None),
-            (&["format", "plain", "4097"], None),
-            (&["start", "plain", "016"], None),
-            (&["start", "aes128", "16"], None),
-            (&["run", "plain", "16"], None),
-            (&["start"], None),
-        ];
-        for (words, command) in table {
-            assert_eq!(rt; read_command(words), command);
-        }
-        Ok(())
     }
 }

@@ -10,16 +10,6 @@ mod answering;
 mod command;
 mod ended;
 mod last_line;
-#[cfg(test)]
-mod reference;
-#[cfg(test)]
-mod reference_fields;
-#[cfg(test)]
-mod reference_session;
-#[cfg(test)]
-mod reference_tests;
-#[cfg(test)]
-mod reopening_tests;
 mod running;
 mod script_lines;
 mod serving;
@@ -27,10 +17,10 @@ mod session;
 mod starting;
 mod status;
 mod taking;
-#[cfg(test)]
-mod tests;
 mod transaction;
 
+pub use command::{Command, read_command};
 pub use ended::Ended;
+pub use last_line::put_last_line;
 pub use running::run;
 pub use status::{Finding, Refusal, Status, Success};

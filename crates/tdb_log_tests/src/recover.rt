@@ -1,8 +1,4 @@
 //! Logs that an independent model of the formats wrote, and damaged or altered ones.
-use crate::first_path::{
-    FIRST_TEXT, MARK, NOTE, NOTE_LIST, OPENING_LIST, SECOND_TEXT, TABLE, THIRD_TEXT,
-};
-use crate::{OpenError, recover};
 use sha2::{Digest as _, Sha256};
 use std::alloc::{AllocError, Global};
 use std::test::Fail;
@@ -11,9 +7,27 @@ use tdb_list::{Entry, write_list};
 use tdb_mark::{Commit, commit_key, mark, read_commit, write_commit};
 use tdb_overlay::{Keys, Leader, Recovered, Seen};
 use tdb_platform::MemoryPlatform;
+use tdb_recover::{OpenError, recover};
 use tdb_seal::{Name, seal_record};
 
 const SECRET: [u8; 32] = [0; 32];
+
+// The pieces of the first path, and the mark of its third text.
+const FIRST_TEXT: &[u8] = &tdb_first_path::FIRST_TEXT;
+
+const SECOND_TEXT: &[u8] = &tdb_first_path::SECOND_TEXT;
+
+const THIRD_TEXT: &[u8] = &tdb_first_path::THIRD_TEXT;
+
+const TABLE: &[u8] = &tdb_first_path::TABLE;
+
+const OPENING_LIST: &[u8] = &tdb_first_path::OPENING_LIST;
+
+const NOTE: &[u8] = &tdb_first_path::NOTE;
+
+const NOTE_LIST: &[u8] = &tdb_first_path::NOTE_LIST;
+
+const MARK: [u8; 32] = tdb_first_path::THIRD_MARK;
 
 /// A device of these pieces, in the order of their places.
 fn device_of(alloc: Global, pieces: &[(usize, &[u8])]) -> Result<Vec<u8>, AllocError> {

@@ -1,10 +1,10 @@
 //! What states, refusals and messages are, by the rules of the database.
 ghost use Rattle.std.specs.Prelude.{◌<◌, ◌^◌, length};
 
-use crate::{Change, CommitError, MemoryState, PartInfo, ReadError, SaveError};
 use std::alloc::{AllocError, Global};
 use std::test::Fail;
 use tdb_base::{Bytes, Damage, Digest, NoRoom, PartId, Place, Rank, Suite};
+use tdb_model::{Change, CommitError, MemoryState, PartInfo, ReadError, SaveError};
 
 /// A write of `length` equal bytes.
 fn write_of(

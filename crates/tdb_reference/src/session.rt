@@ -1,12 +1,14 @@
 // What a session answers to the lines of a script, and what they commit, as the definition of sessions says it. It has
 // no code of the crates below, and knows no damage and no store that is full.
-use crate::reference::Change;
+use crate::Change;
 use std::alloc::{AllocError, Global};
 
-/// The answer to one line: the reply with its line feed, and what is committed before it is put.
+/// The answer to one line.
 #[derive(Debug, Drop, PartialEq, Eq)]
-pub(crate) struct Reply {
+pub struct Reply {
+    /// The reply, with its line feed.
     pub text: String,
+    /// What is committed before it is put.
     pub changes: Vec<Change>,
 }
 
@@ -26,7 +28,7 @@ struct Open {
 
 /// Where scripts stand, one after another: the notes that are committed, the next id, and the open transaction.
 #[derive(Drop)]
-pub(crate) struct Stand {
+pub struct Stand {
     notes: Vec<Note>,
     next_id: u64,
     open: Option<Open>,

@@ -1,6 +1,6 @@
 //! Slots of commit texts, and the refusals of a head.
-use crate::{Head, HeadError, may_commit, slot_of};
 use std::test::Fail;
+use tdb_append::{Head, HeadError, may_commit, slot_of};
 use tdb_base::Digest;
 
 #[test]

@@ -1,9 +1,10 @@
 //! The first path of a store, against the marks that an independent model of the formats gives. A mark depends on every
 //! byte that was written.
-use crate::{Chunk, OpenLog};
 use std::alloc::Global;
 use std::test::Fail;
 use tdb_base::{Bytes, PartId, Rank, Suite};
+use tdb_chunk::{Chunk, OpenLog};
+use tdb_first_path::{FIRST_MARK, SECOND_MARK, STORED_NOTE, THIRD_MARK};
 use tdb_model::{Change, CommitError, ReadError};
 use tdb_overlay::Keys;
 use tdb_platform::{MemoryPlatform, Platform};
@@ -11,14 +12,10 @@ use tdb_platform::{MemoryPlatform, Platform};
 const FIRST: PartId = PartId(1);
 
 /// The stored form of the note `hello`.
-const NOTE: &[u8] = b"\0\0\0\0\0\0\0\x01\0\0\0\x01\0\0\0\x05hello";
+const NOTE: &[u8] = &STORED_NOTE;
 
 /// The marks of the three texts of the first path.
-const MARKS: [&[u8]; 3] = [
-    b"\x36\xe3\x12\x61\xf4\xfb\x75\xf2\x80\x8a\xdb\x3b\x83\x28\x8f\x9c\x5a\x9a\x42\x93\xe8\x54\x03\x66\x3a\x6e\x3f\x3c\x9a\x68\xfb\x6c",
-    b"\xb0\x71\xdc\x76\xa9\x4e\x1a\x19\x80\x34\x75\x23\xf8\x54\x4e\xb3\x94\xfd\xf0\x4b\xd2\x0d\x39\x54\x71\x21\xaa\xb0\x30\x2d\x30\x9a",
-    b"\xe6\x1d\x82\x01\x6b\x95\x24\x90\x6c\x1d\x19\x43\x54\xbb\xfb\x8a\xc8\x4f\xe3\x4f\xec\x29\x61\x61\x7f\x0c\x40\x41\xf1\x32\x83\xe2",
-];
+const MARKS: [&[u8]; 3] = [&FIRST_MARK, &SECOND_MARK, &THIRD_MARK];
 
 fn make(part: PartId, suite: Suite) -> Change {
     Change::Make { part, suite }

@@ -1,19 +1,19 @@
 // The history of an anchor, read from the pieces that were written as its definition says it: slowly, and with no code
 // of the crates below. Nothing is looked for at its place, only by its digest.
-use crate::reference_fields::{
+use crate::fields::{
     derived_key, hmac, is_partition, is_zero, lies_in_one_segment, number, starts_with,
 };
 use sha2::{Digest, Sha256};
 use std::alloc::{AllocError, Global};
 
-/// What one commit changes. A partition and a rank name a chunk.
+/// A change of a commit.
 #[derive(Debug, Drop, PartialEq, Eq)]
-pub(crate) enum Change {
-    /// The chunk has these bytes.
+pub enum Change {
+    /// The chunk of this partition and rank has these bytes.
     Write(u64, u64, Vec<u8>),
-    /// The chunk is gone.
+    /// The chunk of this partition and rank is gone.
     Free(u64, u64),
-    /// An empty partition in a suite.
+    /// An empty partition of this number, in the suite of this number.
     Make(u64, u64),
     /// The second partition is a frozen copy of the first.
     Copied(u64, u64),
@@ -21,16 +21,18 @@ pub(crate) enum Change {
     Gone(u64),
 }
 
-/// A commit: its count, and its changes in order.
+/// A commit.
 #[derive(Debug, Drop, PartialEq, Eq)]
-pub(crate) struct Commit {
+pub struct Commit {
+    /// Its count.
     pub count: u64,
+    /// What it changes, in order.
     pub changes: Vec<Change>,
 }
 
 /// Why no history is given.
 #[derive(Clone, Copy, Debug, PartialEq, Eq)]
-pub(crate) enum NoHistory {
+pub enum NoHistory {
     /// The pieces tell none.
     Untold,
     /// No memory was left.
@@ -45,8 +47,10 @@ impl From<AllocError> for NoHistory {
 
 /// A store, by what its owner knows of it.
 #[derive(Clone, Copy)]
-pub(crate) struct Store<'a> {
+pub struct Store<'a> {
+    /// Its secret, of 32 bytes.
     pub secret: &'a [u8],
+    /// Its number of segments.
     pub segments: u64,
 }
 
@@ -61,9 +65,9 @@ struct Text<'a> {
     first: &'a [u8],
 }
 
-/// The commits of the chain of texts that ends at an anchor, oldest first. The pieces are in the order in which they
-/// were written.
-pub(crate) fn history(
+/// The commits of the chain of texts that ends at the anchor of this count and mark, oldest first, by the pieces that
+/// were ever written, in any order. `Untold` where they tell no such chain, `Memory` where none was left.
+pub fn history(
     alloc: Global,
     pieces: &[Vec<u8>],
     store: &Store<'_>,

@@ -3,11 +3,11 @@ ghost use Rattle.std.specs.Prelude.{◌≡◌, IfOk};
 ghost use Rattle.tdb_list.specs.ChangeList.{IsList};
 ghost use Rattle.tdb_overlay.specs.Reserving.{IsReserved};
 
-use crate::{FetchError, Keys, Leader, Overlay, Reserved, Seen, fetch, fetch_text};
 use std::alloc::{AllocError, Global};
 use std::test::Fail;
 use tdb_base::{Damage, Digest, PartId, Piece, Place, Rank, Suite};
 use tdb_list::Entry;
+use tdb_overlay::{FetchError, Keys, Leader, Overlay, Reserved, Seen, fetch, fetch_text};
 use tdb_platform::MemoryPlatform;
 
 const NOWHERE: Piece = Piece {

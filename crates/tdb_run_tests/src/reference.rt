@@ -1,10 +1,10 @@
 // Runs against the reference: what each line is answered, and the history of the anchor that they leave.
-use crate::reference::{Change, Commit, NoHistory, Store, history};
-use crate::reference_session::Stand;
-use crate::tests::{DONE, Outcome, REPLIES, SCRIPT, run_over_memory};
 use std::alloc::{AllocError, Global};
 use std::test::Fail;
-use tdb_platform::Platform;
+use tdb_first_path::STORED_NOTE;
+use tdb_platform::{MemoryPlatform, Platform};
+use tdb_reference::{Change, Commit, NoHistory, Stand, Store, history};
+use tdb_run_rows::{DONE, Outcome, REPLIES, SCRIPT, run_over_memory};
 
 const SECRET: [u8; 32] = [0; 32];
 
@@ -24,11 +24,7 @@ const PLACES: [(usize, usize); 7] = [
     (262_997, 136),
 ];
 
-// The note `hello` as it is stored.
-const STORED_NOTE: &[u8] =
-    b"\x00\x00\x00\x00\x00\x00\x00\x01\x00\x00\x00\x01\x00\x00\x00\x05\x68\x65\x6c\x6c\x6f";
-
-fn run_script(alloc: Global, script: &[u8]) -> Result<Outcome, Fail> {
+fn run_script(alloc: Global, script: &[u8]) -> Result<Outcome<MemoryPlatform>, AllocError> {
     run_over_memory(alloc, &["start", "plain", "16"], script, [&[], &[], &[]])
 }
 

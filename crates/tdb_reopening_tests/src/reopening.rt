@@ -1,12 +1,11 @@
 // Runs over a store that is there: what they find, whatever its device shows.
-use crate::tests::{DONE, Outcome, SCRIPT, run_on, run_over_memory, run_with};
-use crate::{Finding, Status, Success, run};
 use sha2::{Digest as _, Sha256};
 use std::alloc::Global;
 use std::test::Fail;
 use tdb_base::{Damage, Digest, Place};
 use tdb_platform::{Answer, DEVICE_LIMIT, HostilePlatform, MemoryPlatform, Platform};
-use tdb_stream::{MemorySink, MemorySource};
+use tdb_run::{Finding, Status, Success};
+use tdb_run_rows::{DONE, Outcome, SCRIPT, run_on, run_over_memory, run_with};
 
 const START: [&str; 3] = ["start", "plain", "16"];
 
@@ -132,9 +131,9 @@ fn hex(alloc: Global, digest: &Digest) -> Result<String, Fail> {
 }
 
 // The store with its twenty notes.
-fn store_of_notes(alloc: Global) -> Result<Outcome, Fail> {
+fn store_of_notes(alloc: Global) -> Result<Outcome<MemoryPlatform>, Fail> {
     let script = notes_script(alloc)?;
-    run_over_memory(alloc, &START, script.as_bytes(), [&[], &[], &[]])
+    Ok(run_over_memory(alloc, &START, script.as_bytes(), [&[], &[], &[]])?)
 }
 
 // What a run answers where a byte of a piece was changed: its status, and what it puts.
@@ -362,19 +361,8 @@ fn run_deceived(
     let mut answers = Vec::new(alloc);
     answers.push(Answer { nth, bytes })?;
     let platform = HostilePlatform::new(store.platform, answers);
-    let mut source = MemorySource::new(script.to_vec(alloc)?, Vec::new(alloc));
-    let mut sink = MemorySink::new(alloc, Vec::new(alloc));
-    let archives = Vec::new(alloc);
-    let ended = run(
-        alloc,
-        &RUN,
-        &mut source,
-        &mut sink,
-        platform,
-        &[0; 32],
-        archives,
-    );
-    Ok((ended.status, sink.bytes().to_vec(alloc)?))
+    let ended = run_with(alloc, &RUN, script, platform, [&[], &[]])?;
+    Ok((ended.status, ended.sink.bytes().to_vec(alloc)?))
 }
 
 #[test]

@@ -1,0 +1,15 @@
+//! Tests alone, of the log and of the store of chunks: slots and heads, overlays and fetches, the opening of logs
+//! that an independent model of the formats wrote, and the marks of a first path.
+//!
+//! They stand apart from what they test, so that no crate is proved twice. They show what no clause says: values
+//! from outside, and that calls answer with ample memory. No crate stands on this one.
+#![tactic(auto)]
+
+#[cfg(test)]
+mod append;
+#[cfg(test)]
+mod chunk;
+#[cfg(test)]
+mod overlay;
+#[cfg(test)]
+mod recover;
