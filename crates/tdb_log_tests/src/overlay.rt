@@ -94,6 +94,9 @@ fn note_one(
     count: u64,
     entry: Entry,
 ) -> Result<bool, AllocError> {
+    if count == 0 {
+        return Ok(false);
+    }
     if !entry.is_well_formed() {
         return Ok(false);
     }
