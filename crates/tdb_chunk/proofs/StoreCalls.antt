@@ -1,8 +1,7 @@
 -- From what a commit of the open log says to what the store says that owns it.
-use Rattle.std.proofs.Common.{◌≡◌, ◌≢◌, ◌+◌, ◌<◌, ◌≤◌, ℕ, Bool, true, false, List, [], ◌∷◌, ◌++◌, length, Result, Ok, Err, IfErr, IsTrue, refl, sym, ◌∙◌, ap, subst}
+use Rattle.std.proofs.Common.{◌≡◌, ◌≢◌, ◌+◌, ◌<◌, ◌≤◌, ℕ, Bool, true, false, List, [], ◌∷◌, ◌++◌, length, Result, Ok, Err, IsTrue, refl, sym, ◌∙◌, ap, subst}
 use Rattle.std.proofs.lemmas.Bool.{false≢true}
-use Rattle.std.specs.Prelude.{OnOk}
-use Rattle.tdb_base.specs.Trace.{WrittenPiece, IsNumbered}
+use Rattle.tdb_base.specs.Trace.{IsNumbered}
 use Rattle.tdb_model.specs.Apply.{History}
 use Rattle.tdb_model.specs.HasCommitted.{HasCommitted}
 use Rattle.tdb_model.specs.Limits.{change_limit, count_limit}
@@ -17,9 +16,9 @@ use Rattle.tdb_overlay.specs.Needed.{needed}
 use Rattle.tdb_overlay.specs.Ran.{RanStep}
 use Rattle.tdb_overlay.specs.Recovered.{IsRecovered}
 use Rattle.tdb_overlay.specs.Sound.{IsSound}
-use Rattle.tdb_overlay.specs.StoreState.{StoreState, commit_on}
+use Rattle.tdb_overlay.specs.StoreState.{StoreState}
 use Rattle.tdb_chunk.specs.CommitFacts.{CommitFacts, IsBehind, stops}
-use Rattle.tdb_chunk.specs.Committing.{IsCommitCall, IsRightOf, is_refusal}
+use Rattle.tdb_chunk.specs.Committing.{IsCommitCall, IsRightOf}
 use Rattle.tdb_chunk.specs.Known.{Knows, store_of}
 use Rattle.tdb_chunk.specs.Standing.{IsReady, StandsAt}
 use Rattle.tdb_chunk.specs.Stepping.{HasKnownLog}

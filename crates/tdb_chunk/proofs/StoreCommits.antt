@@ -1,22 +1,21 @@
 -- A commit of a store that owns its platform is one of a store of chunks.
-use Rattle.std.proofs.Common.{◌≡◌, ◌≢◌, ◌⊎◌, inl, inr, ⊎_elim, ℕ, ◌+◌, ◌<◌, ◌≤◌, ◌==◌, cond, Bool, true, false, List, [], ◌∷◌, ◌++◌, length, Option, Some, None, Result, Ok, Err, IfErr, OnOk, IsTrue, refl, sym, ◌∙◌, ap, subst, arith, append-nil}
+use Rattle.std.proofs.Common.{◌≡◌, ◌≢◌, ◌⊎◌, inl, inr, ⊎_elim, ℕ, ◌+◌, ◌≤◌, ◌==◌, cond, Bool, true, false, List, [], ◌∷◌, ◌++◌, Option, Some, None, Result, Ok, Err, IsTrue, refl, sym, ◌∙◌, ap, subst, arith, append-nil}
 use Rattle.std.proofs.lemmas.Bool.{false≢true, eq-eqb}
 use Rattle.tdb_base.specs.declared.piece.NoRoom as room
 use Rattle.tdb_base.specs.declared.piece.Place.{Place}
-use Rattle.tdb_base.specs.Trace.{Extends, IsNumbered, Trace, WrittenPiece}
+use Rattle.tdb_base.specs.Trace.{Extends, Trace, WrittenPiece}
 use Rattle.tdb_base.proofs.Tracing.{extends_along}
-use Rattle.tdb_model.specs.Apply.{History, apply_all, replay, state_of}
+use Rattle.tdb_model.specs.Apply.{History, apply_all, state_of}
 use Rattle.tdb_model.specs.Check.{check_commit}
 use Rattle.tdb_model.specs.HasCommitted.{CommitCause, HasCommitted, IsBegun, IsCommitted}
-use Rattle.tdb_model.specs.Limits.{change_limit, count_limit}
-use Rattle.tdb_model.specs.Meanings.{Meanings}
+use Rattle.tdb_model.specs.Limits.{count_limit}
 use Rattle.tdb_model.specs.State.{State, no_partitions}
 use Rattle.tdb_model.specs.Stays.{Stays}
 use Rattle.tdb_model.specs.declared.change.Change.{Change}
 use Rattle.tdb_model.specs.declared.error.CommitError.{CommitError}
 use Rattle.tdb_model.specs.declared.error.CommitError.TheVariants.{Stopped, TooManyChanges, PartitionNumber, NoPartition, PartitionExists, PartitionTwice, Frozen, RankTooLarge, ChunkTooLong, RingFull, CounterEnd, NoRoom, Memory, Fault}
 use Rattle.tdb_model.proofs.HistoryLemmas.{replay-append}
-use Rattle.tdb_platform.specs.CrashStates.{CrashStates, now}
+use Rattle.tdb_platform.specs.CrashStates.{CrashStates}
 use Rattle.tdb_platform.specs.Outside.{Anchor, Outside}
 use Rattle.tdb_seg.specs.SegmentSpace.{SegmentSpace}
 use Rattle.tdb_overlay.specs.Found.{Finer, Store, in_trace}

@@ -1,4 +1,4 @@
-use Rattle.std.proofs.Common.{◌≡◌, ◌+◌, List, Err, length, refl, sym, ap, subst, arith}
+use Rattle.std.proofs.Common.{◌+◌, List, Err, length, refl, sym, ap, subst, arith}
 use Rattle.std.proofs.lemmas.Result.{IfErr-weaker}
 use Rattle.std.specs.List.{AllByRecursion}
 use Rattle.tdb_append.specs.Placed.{placed}

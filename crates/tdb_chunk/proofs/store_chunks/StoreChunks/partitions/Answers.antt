@@ -1,4 +1,4 @@
-use Rattle.std.proofs.Common.{List, sym, ap, ◌∙◌}
+use Rattle.std.proofs.Common.{◌∙◌}
 use Rattle.std.proofs.lemmas.Result.{IfOk-weaker}
 use Rattle.tdb_chunk.proofs.StoreReads.{infos_as}
 use Rattle.tdb_chunk.proofs.store_chunks.StoreChunks.partitions.Goals as goal
