@@ -1,11 +1,13 @@
 //! Opening a store on a platform.
-ghost use Rattle.std.specs.Prelude.{◌≡◌, ◌⊎◌, false, [], Err, IfErr, IfOk, IsTrue};
+ghost use Rattle.std.specs.Prelude.{◌≡◌, ◌≢◌, ◌⊎◌, false, [], Err, IfErr, IfOk, IsTrue};
 ghost use Rattle.tdb_base.specs.Rose.{Rose};
 ghost use Rattle.tdb_base.specs.declared.piece.Damage.{Damage};
 ghost use Rattle.tdb_base.specs.declared.piece.Place.{Place};
 ghost use Rattle.tdb_model.specs.Apply.{History};
 ghost use Rattle.tdb_overlay.specs.Found as found;
+ghost use Rattle.tdb_overlay.specs.Growth.{IsSettled};
 ghost use Rattle.tdb_overlay.specs.Ran.{RanOn};
+ghost use Rattle.tdb_overlay.specs.Reading.{OnlyReads};
 ghost use Rattle.tdb_overlay.specs.Required.{IsOpeningPiece};
 ghost use Rattle.tdb_overlay.specs.StoreState.{StoreState};
 ghost use Rattle.tdb_recover.specs.Damaged.{IsDamageOf};
@@ -30,6 +32,9 @@ impl<P: Platform> Store<P> {
     pub fn attach(alloc: Global, platform: P, secret: &[u8; 32]) -> Result<Store<P>, (P, OpenError)>
         // it begins no commit
         ensures ran { IfOk result (λ s. (store : found.Store) → RanOn P.outside P.crash_states store platform [] [] s.platform) }
+        // nothing was written, and no fault is hidden
+        ensures reads { IfOk result (λ s. OnlyReads P.outside P.crash_states platform s.platform) }
+        ensures quiet { IfOk result (λ s. (P.outside s.platform).faults ≡ (P.outside platform).faults) }
         // it stands where the log of the anchor ends
         ensures stands { IfOk result (λ s. (store : found.Store) (history : History) (last : StoreState)
             → Premises (P.outside platform) (P.outside s.platform) secret.now store history last → (store_in s ≡ store) × StandsAt P.outside s history last) }
@@ -42,6 +47,10 @@ impl<P: Platform> Store<P> {
             → ReadsOnly (IsOpeningPiece (P.outside platform).trace.written store (P.outside platform).anchor) (P.outside platform) (P.outside s.platform)) }
         // no error begins a commit either
         ensures err { IfErr result (λ e. (store : found.Store) → RanOn P.outside P.crash_states store platform [] [] e.0) }
+        // nothing was written; unless the platform failed, no fault is hidden, and a stop now leaves the anchor that was told
+        ensures reads_err { IfErr result (λ e. OnlyReads P.outside P.crash_states platform e.0) }
+        ensures settled_err { IfErr result (λ e. e.1 ≢ opens.Fault → IsSettled P.outside P.crash_states e.0) }
+        ensures quiet_err { IfErr result (λ e. e.1 ≢ opens.Fault → (P.outside e.0).faults ≡ (P.outside platform).faults) }
         ensures unformatted { IfErr result (λ e. e.1 ≡ opens.Unformatted → IsTrue (P.outside platform).tells → (P.outside platform).anchor.0 ≡ 0) }
         ensures unformatted_always { IsTrue (P.outside platform).tells → (P.outside platform).anchor.0 ≡ 0
             → (back : P) × ((result ≡ Err (back, opens.Unformatted)) ⊎ (result ≡ Err (back, opens.Fault))) }

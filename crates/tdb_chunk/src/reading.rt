@@ -61,6 +61,8 @@ impl OpenLog {
         ensures tampered { (damage : Damage) → result ≡ Err (answers.Tampered damage) → IsTrue (P.outside platform.old).tells → (last : StoreState) → Knows (P.outside platform.old) self.now last
             → IsDamagedChunk (P.outside platform.old) (P.outside platform.new) self.now last part.0 rank.0 damage }
         ensures fault { result ≡ Err answers.Fault → Rose (P.outside platform.old).faults (P.outside platform.new).faults }
+        // with any other answer there was no fault
+        ensures quiet { result ≢ Err answers.Fault → (P.outside platform.new).faults ≡ (P.outside platform.old).faults }
         ensures stopped { result ≢ Err answers.Stopped }
     {
         let Some(leader) = self.leader(part) else {

@@ -1,5 +1,5 @@
 //! The lists of a log, taken in one after another.
-ghost use Rattle.std.specs.Prelude.{◌≡◌, ◌≤◌, List, reverse, Ok, Err, OnOk, IfErr, IsTrue};
+ghost use Rattle.std.specs.Prelude.{◌≡◌, ◌≢◌, ◌≤◌, List, reverse, Ok, Err, OnOk, IfErr, IsTrue};
 ghost use Rattle.std.specs.List.{AllByRecursion};
 ghost use Rattle.tdb_model.specs.declared.change.Change.{Change};
 ghost use Rattle.tdb_overlay.specs.Changes.{named_records};
@@ -13,6 +13,7 @@ ghost use Rattle.tdb_recover.specs.Chain.{EachLog, EndsWith, IsBehind, IsExplain
 ghost use Rattle.tdb_recover.specs.Explained.{IsCaused, IsExplained};
 ghost use Rattle.tdb_recover.specs.Reads.{ReadsOnly};
 ghost use Rattle.tdb_recover.specs.Replay.{IsCommitIn, IsFormUnless, IsReplayOf, IsRest};
+ghost use Rattle.tdb_recover.specs.declared.error.OpenError.TheVariants.{Fault};
 
 use crate::error::OpenError;
 use crate::records::read_entries;
@@ -63,6 +64,7 @@ fn replay_list<P: Platform>(
         → IsReplayOf (needed (P.outside platform.old).trace.written store anchor) store log.old before → IsReplayOf (needed (P.outside platform.old).trace.written store anchor) store log.new after) }
     ensures only { IsTrue (P.outside platform.old).tells → OnOk result (ReadsOnly (λ p. p ≡ text.now.first) (P.outside platform.old) (P.outside platform.new)) }
     ensures caused { IfErr result (IsCaused (P.outside platform.old) (P.outside platform.new)) }
+    ensures quiet { result ≢ Err Fault → (P.outside platform.new).faults ≡ (P.outside platform.old).faults }
     ensures explained { IsTrue (P.outside platform.old).tells → IfErr result (λ error. (store : Store) (anchor : Anchor) (before : StoreState) (changes : List Change) (after : StoreState)
         → IsCommitIn (P.outside platform.old).trace.written (P.outside platform.new).trace keys.now store anchor before text.now changes after
         → IsReplayOf (needed (P.outside platform.old).trace.written store anchor) store log.old before
@@ -98,6 +100,7 @@ pub(crate) fn replay<P: Platform>(
         → EndsWith (P.outside platform.old).trace.written keys.now whole.chain chain.base (reverse chain.commits.items)
         → ReadsOnlyIn (P.outside platform.old) (P.outside platform.new) whole)) }
     ensures caused { IfErr result (IsCaused (P.outside platform.old) (P.outside platform.new)) }
+    ensures quiet { result ≢ Err Fault → (P.outside platform.new).faults ≡ (P.outside platform.old).faults }
     ensures explained { IfErr result (λ error. EachLog (P.outside platform.old) (P.outside platform.new) keys.now (λ whole.
         IsRest (P.outside platform.old).trace.written whole (reverse chain.commits.items) log.old
         → EndsWith (P.outside platform.old).trace.written keys.now whole.chain chain.base (reverse chain.commits.items)

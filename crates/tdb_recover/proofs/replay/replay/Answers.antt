@@ -24,6 +24,7 @@ loop-text-init g c = record {
   done = ([], refl);
   behind = c.requires.commits;
   rest = λ t whole given rest ends. rest;
+  quiet = refl;
   only = λ t whole given rest ends.
       let old = g.P.Platform.outside c.args.platform.now in
       only_none old old (IsOpeningPiece old.trace.written whole.store whole.anchor) refl;
@@ -72,6 +73,7 @@ loop-text-preserved g c =
           (written_then outside states old mid first t (λ ws. IsReplayOf (needed ws whole.store whole.anchor) whole.store c.loop-text.log here.state) here.kept) in
           rest_goes (outside old).trace.written (outside new).trace keys whole given text (reverse left) here.state c.replay_list.new.log next
           (written_back outside states old mid first t (λ ws. IsReplayOf (needed ws whole.store whole.anchor) whole.store c.replay_list.new.log next.after) kept);
+      quiet = c.in_ok-replay_list.ensures.quiet (λ same. cc same) ∙ so_far.quiet;
       only = λ t whole given rest ends.
           let then = tells_then outside states old mid first t in
           let before = given_before (outside old).trace.written (outside mid).trace (outside new).trace keys whole (g.met.P.Platform.numbered mid then) (c.replay_list.ensures.reads.grows then) given in

@@ -17,6 +17,7 @@ invariant-loop-text g l = record {
       IsRest (g.P.Platform.outside l.fn.platform).trace.written whole (reverse l.fn.chain.commits.items) l.fn.log
       → EndsWith (g.P.Platform.outside l.fn.platform).trace.written l.keys whole.chain l.fn.chain.base (reverse l.fn.chain.commits.items)
       → IsRest (g.P.Platform.outside l.fn.platform).trace.written whole (reverse l.commits.items) l.log);
+  quiet : (g.P.Platform.outside l.platform).faults ≡ (g.P.Platform.outside l.fn.platform).faults;
   only : EachLog (g.P.Platform.outside l.fn.platform) (g.P.Platform.outside l.platform) l.keys (λ whole.
       IsRest (g.P.Platform.outside l.fn.platform).trace.written whole (reverse l.fn.chain.commits.items) l.fn.log
       → EndsWith (g.P.Platform.outside l.fn.platform).trace.written l.keys whole.chain l.fn.chain.base (reverse l.fn.chain.commits.items)

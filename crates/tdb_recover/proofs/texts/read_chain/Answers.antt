@@ -21,6 +21,7 @@ loop-text-init g c = record {
   counts = let h = c.in_ok-text.ensures.counts in (omega (arith, h.0), omega (arith, h.1));
   commits = subst (λ (l : List Commit). AllByRecursion (IsBehind c.in_ok-text.text) (reverse l)) (sym c.new-commits.ensures.items) tt;
   ends = λ t log given at. subst (λ (l : List Commit). EndsWith (g.P.Platform.outside c.args.platform.now).trace.written c.args.keys.now log.chain c.in_ok-text.text (reverse l)) (sym c.new-commits.ensures.items) (c.in_ok-text.ensures.ends t log given at);
+  quiet = c.in_ok-text.ensures.quiet (λ same. cc same);
   only = c.in_ok-text.ensures.only;
 }
 
@@ -92,6 +93,7 @@ loop-text-preserved g c =
           (written_then outside states old mid first t (λ ws. EndsWith ws keys log.chain text (reverse commits)) ends) in
           let here : EndsWith (outside old).trace.written keys log.chain earlier (text ∷ reverse commits) = written_back outside states old mid first t (λ ws. EndsWith ws keys log.chain earlier (text ∷ reverse commits)) next in
           subst (λ (l : List Commit). EndsWith (outside old).trace.written keys log.chain earlier l) (sym (ap (λ (l : List Commit). reverse l) c.in_ok-push.ensures.items ∙ reverse_push commits text)) here;
+      quiet = c.in_ok-earlier.ensures.quiet (λ same. cc same) ∙ so_far.quiet;
       only = λ t log given at.
           let then = tells_then outside states old mid first t in
           let before = given_before (outside old).trace.written (outside mid).trace (outside new).trace keys log (g.met.P.Platform.numbered mid then) (c.read_before.ensures.reads.grows then) given in

@@ -13,6 +13,7 @@ invariant-loop-text g l = record {
   commits : AllByRecursion (IsBehind l.text) (reverse l.commits.items);
   ends : EachLog (g.P.Platform.outside l.fn.platform) (g.P.Platform.outside l.platform) l.keys (λ log. log.anchor ≡ (l.count, l.mark.0)
       → EndsWith (g.P.Platform.outside l.fn.platform).trace.written l.keys log.chain l.text (reverse l.commits.items));
+  quiet : (g.P.Platform.outside l.platform).faults ≡ (g.P.Platform.outside l.fn.platform).faults;
   only : EachLog (g.P.Platform.outside l.fn.platform) (g.P.Platform.outside l.platform) l.keys (λ log. log.anchor ≡ (l.count, l.mark.0)
       → ReadsOnlyIn (g.P.Platform.outside l.fn.platform) (g.P.Platform.outside l.platform) log);
 }
