@@ -15,7 +15,6 @@ use Rattle.tdb_platform.specs.CrashStates.{CrashStates}
 use Rattle.tdb_overlay.specs.Reading.{OnlyReads}
 use Rattle.tdb_recover.proofs.Composing.{given_before, given_then, tells_then, written_then}
 use Rattle.tdb_seal.specs.SealedRecord.{IsSealedRecord}
-use Rattle.tdb_seg.specs.SegmentSpace.{SegmentSpace}
 use Rattle.tdb_seg.specs.TableSpace.{table_space}
 use Rattle.tdb_overlay.specs.Covering.{Covers, IsCovering, no_covers}
 use Rattle.tdb_overlay.specs.Found.{in_trace}
