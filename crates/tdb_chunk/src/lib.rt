@@ -20,6 +20,8 @@ mod records;
 mod store;
 mod store_chunks;
 #[cfg(test)]
+mod store_tests;
+#[cfg(test)]
 mod tests;
 mod text;
 
