@@ -1,5 +1,6 @@
 //! Tests alone, of the log and of the store of chunks: slots and heads, overlays and fetches, the opening of logs
-//! that an independent model of the formats wrote, and the marks of a first path.
+//! that an independent model of the formats wrote, the marks of a first path, and a store that
+//! owns its platform, through the trait of stores.
 //!
 //! They stand apart from what they test, so that no crate is proved twice. They show what no clause says: values
 //! from outside, and that calls answer with ample memory. No crate stands on this one.
@@ -13,3 +14,5 @@ mod chunk;
 mod overlay;
 #[cfg(test)]
 mod recover;
+#[cfg(test)]
+mod store;
