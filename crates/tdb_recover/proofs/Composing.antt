@@ -1,5 +1,5 @@
 -- Calls that only read, one after another, and what their errors say.
-use Rattle.std.proofs.Common.{inl, inr, ℕ, ◌≤◌, List, ◌∷◌, ◌++◌, IsTrue, sym, ◌∙◌, ap, subst, arith, append_assoc}
+use Rattle.std.proofs.Common.{◌≡◌, inl, inr, ℕ, ◌≤◌, List, ◌∷◌, ◌++◌, IsTrue, sym, ◌∙◌, ap, subst, arith, append_assoc}
 use Rattle.tdb_base.specs.declared.piece.Piece.{Piece}
 use Rattle.tdb_base.specs.Trace.{Trace, ReadPiece, WrittenPiece, Extends, IsNumbered}
 use Rattle.tdb_mark.specs.CommitText.{commit_key_of, commit_of}
@@ -47,13 +47,13 @@ explained_later old mid new needed (Form place) first is = is
 explained_later old mid new needed Fault first is = tt
 explained_later old mid new needed Memory first is = tt
 
-pub caused_later : (old mid new : Outside) (error : OpenError) → old.faults ≤ mid.faults → IsCaused mid new error → IsCaused old new error
+pub caused_later : (old mid new : Outside) (error : OpenError) → mid.faults ≡ old.faults → IsCaused mid new error → IsCaused old new error
 caused_later old mid new Unformatted first is = is
-caused_later old mid new (Tampered damage) first is = tt
-caused_later old mid new (Form place) first is = tt
+caused_later old mid new (Tampered damage) first is = is ∙ first
+caused_later old mid new (Form place) first is = is ∙ first
 caused_later old mid new Fault first (inl rose) = inl (omega (arith, first, rose))
 caused_later old mid new Fault first (inr full) = inr full
-caused_later old mid new Memory first is = tt
+caused_later old mid new Memory first is = is ∙ first
 
 module _ {D : Type 0} (outside : D → Outside) (crash_states : D → CrashStates) (old mid : D) (first : OnlyReads outside crash_states old mid) (t : IsTrue (outside old).tells) where
   pub tells_then : IsTrue (outside mid).tells

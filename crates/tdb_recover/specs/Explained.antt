@@ -1,4 +1,5 @@
 -- What the errors of opening a log say.
+use Rattle.std.specs.Prelude.{◌≡◌}
 use Rattle.tdb_base.specs.declared.piece.Piece.{Piece}
 use Rattle.tdb_platform.specs.Outside.{Outside, Rose}
 use Rattle.tdb_overlay.specs.declared.fetching.FetchError.{FetchError}
@@ -13,13 +14,14 @@ open_error_of (fetching.TheVariants.Tampered damage) = Tampered damage
 open_error_of fetching.TheVariants.Fault = Fault
 open_error_of fetching.TheVariants.Memory = Memory
 
--- An error in the course of opening comes of the platform only where its faults rose. That there is no log is said before.
+-- An error in the course of opening comes of the platform only where its faults rose, and of anything else only where they stayed. That
+-- there is no log is said before.
 abbrev pub IsCaused : Outside → Outside → OpenError → Type 0
 IsCaused old new Unformatted = ⊥
-IsCaused old new (Tampered damage) = Unit {0}
-IsCaused old new (Form place) = Unit {0}
+IsCaused old new (Tampered damage) = new.faults ≡ old.faults
+IsCaused old new (Form place) = new.faults ≡ old.faults
 IsCaused old new Fault = Rose old.faults new.faults
-IsCaused old new Memory = Unit {0}
+IsCaused old new Memory = new.faults ≡ old.faults
 
 -- An error where the log is well formed: damage is told only of a piece that is needed, and every piece fits.
 abbrev pub IsExplained : Outside → Outside → (Piece → Type 0) → OpenError → Type 0

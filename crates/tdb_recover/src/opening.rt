@@ -1,5 +1,5 @@
 //! Opening the log that the anchor names.
-ghost use Rattle.std.specs.Prelude.{◌≡◌, ◌≢◌, ◌⊎◌, ◌<◌, IfOk, IfErr, IsTrue, Err};
+ghost use Rattle.std.specs.Prelude.{◌≡◌, ◌≢◌, ◌⊎◌, ◌<◌, IfOk, IfErr, IsTrue, Err, OnOk};
 ghost use Rattle.tdb_base.specs.declared.piece.Damage.{Damage};
 ghost use Rattle.tdb_base.specs.declared.piece.Place.{Place};
 ghost use Rattle.tdb_model.specs.Apply.{History};
@@ -45,6 +45,7 @@ fn open_log<P: Platform>(
     ensures only { IfOk result (λ _. EachLog (P.outside platform.old) (P.outside platform.new) keys.now (λ whole. whole.anchor ≡ (count, mark.0)
         → ReadsOnlyIn (P.outside platform.old) (P.outside platform.new) whole)) }
     ensures caused { IfErr result (IsCaused (P.outside platform.old) (P.outside platform.new)) }
+    ensures quiet { OnOk result ((P.outside platform.new).faults ≡ (P.outside platform.old).faults) }
     ensures explained { IfErr result (λ error. EachLog (P.outside platform.old) (P.outside platform.new) keys.now (λ whole. whole.anchor ≡ (count, mark.0)
         → IsExplainedIn (P.outside platform.old) (P.outside platform.new) error whole)) }
 {
@@ -99,6 +100,8 @@ pub fn recover<P: Platform>(
     // a piece that has its digest fits the others
     ensures form { (place : Place) → result ≡ Err (Form place) → (store : Store) (history : History) (last : StoreState) → Premises (P.outside platform.old) (P.outside platform.new) keys.now store history last → ⊥ }
     ensures fault { result ≡ Err Fault → Rose (P.outside platform.old).faults (P.outside platform.new).faults }
+    // no fault is hidden
+    ensures quiet { (result ≢ Err Fault) → (P.outside platform.new).faults ≡ (P.outside platform.old).faults }
 {
     let Ok(anchor) = platform.anchor() else {
         return Err(OpenError::Fault);

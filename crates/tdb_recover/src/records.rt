@@ -1,5 +1,5 @@
 //! The records that texts name: the segment table of a checkpoint, and the change list of a commit.
-ghost use Rattle.std.specs.Prelude.{◌≡◌, ℕ, List, IfOk, IfErr, IsTrue};
+ghost use Rattle.std.specs.Prelude.{◌≡◌, ℕ, List, IfOk, IfErr, IsTrue, OnOk};
 ghost use Rattle.tdb_base.specs.declared.piece.Piece.{Piece};
 ghost use Rattle.tdb_list.specs.ChangeList.{IsList};
 ghost use Rattle.tdb_mark.specs.CommitFormat.{IsInFormat};
@@ -42,6 +42,7 @@ fn open_record<P: Platform>(
         → IsRecordIn (P.outside platform.old).trace.written (P.outside platform.new).trace keys.now name.now piece.now plain → bytes.items ≡ plain) }
     ensures only { IsTrue (P.outside platform.old).tells → IfOk result (λ _. ReadsOnly (λ p. p ≡ piece.now) (P.outside platform.old) (P.outside platform.new)) }
     ensures caused { IfErr result (IsCaused (P.outside platform.old) (P.outside platform.new)) }
+    ensures quiet { OnOk result ((P.outside platform.new).faults ≡ (P.outside platform.old).faults) }
     ensures explained { IsTrue (P.outside platform.old).tells → IfErr result (λ error. (plain : List ℕ)
         → IsRecordIn (P.outside platform.old).trace.written (P.outside platform.new).trace keys.now name.now piece.now plain
         → IsExplained (P.outside platform.old) (P.outside platform.new) (λ p. p ≡ piece.now) error) }
@@ -67,6 +68,7 @@ pub(crate) fn read_segments<P: Platform>(
         (given : IsTableIn (P.outside platform.old).trace.written (P.outside platform.new).trace keys.now text.now) → segments ≡ table_space given.table.table (end_of text.now.first)) }
     ensures only { IsTrue (P.outside platform.old).tells → IfOk result (λ _. ReadsOnly (λ p. p ≡ text.now.first) (P.outside platform.old) (P.outside platform.new)) }
     ensures caused { IfErr result (IsCaused (P.outside platform.old) (P.outside platform.new)) }
+    ensures quiet { OnOk result ((P.outside platform.new).faults ≡ (P.outside platform.old).faults) }
     ensures explained { IsTrue (P.outside platform.old).tells → IfErr result (λ error.
         IsTableIn (P.outside platform.old).trace.written (P.outside platform.new).trace keys.now text.now
         → IsExplained (P.outside platform.old) (P.outside platform.new) (λ p. p ≡ text.now.first) error) }
@@ -108,6 +110,7 @@ pub(crate) fn read_entries<P: Platform>(
         → (given : IsListIn (P.outside platform.old).trace.written (P.outside platform.new).trace keys.now text.now changes) → entries.items ≡ given.list.entries) }
     ensures only { IsTrue (P.outside platform.old).tells → IfOk result (λ _. ReadsOnly (λ p. p ≡ text.now.first) (P.outside platform.old) (P.outside platform.new)) }
     ensures caused { IfErr result (IsCaused (P.outside platform.old) (P.outside platform.new)) }
+    ensures quiet { OnOk result ((P.outside platform.new).faults ≡ (P.outside platform.old).faults) }
     ensures explained { IsTrue (P.outside platform.old).tells → IfErr result (λ error. (changes : List Change)
         → IsListIn (P.outside platform.old).trace.written (P.outside platform.new).trace keys.now text.now changes → LiesBelow segments.now.segments text.now.first
         → IsExplained (P.outside platform.old) (P.outside platform.new) (λ p. p ≡ text.now.first) error) }

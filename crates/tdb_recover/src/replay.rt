@@ -62,6 +62,7 @@ fn replay_list<P: Platform>(
         → IsReplayOf (needed (P.outside platform.old).trace.written store anchor) store log.old before → IsReplayOf (needed (P.outside platform.old).trace.written store anchor) store log.new after) }
     ensures only { IsTrue (P.outside platform.old).tells → OnOk result (ReadsOnly (λ p. p ≡ text.now.first) (P.outside platform.old) (P.outside platform.new)) }
     ensures caused { IfErr result (IsCaused (P.outside platform.old) (P.outside platform.new)) }
+    ensures quiet { OnOk result ((P.outside platform.new).faults ≡ (P.outside platform.old).faults) }
     ensures explained { IsTrue (P.outside platform.old).tells → IfErr result (λ error. (store : Store) (anchor : Anchor) (before : StoreState) (changes : List Change) (after : StoreState)
         → IsCommitIn (P.outside platform.old).trace.written (P.outside platform.new).trace keys.now store anchor before text.now changes after
         → IsReplayOf (needed (P.outside platform.old).trace.written store anchor) store log.old before
@@ -97,6 +98,7 @@ pub(crate) fn replay<P: Platform>(
         → EndsWith (P.outside platform.old).trace.written keys.now whole.chain chain.base (reverse chain.commits.items)
         → ReadsOnlyIn (P.outside platform.old) (P.outside platform.new) whole)) }
     ensures caused { IfErr result (IsCaused (P.outside platform.old) (P.outside platform.new)) }
+    ensures quiet { OnOk result ((P.outside platform.new).faults ≡ (P.outside platform.old).faults) }
     ensures explained { IfErr result (λ error. EachLog (P.outside platform.old) (P.outside platform.new) keys.now (λ whole.
         IsRest (P.outside platform.old).trace.written whole (reverse chain.commits.items) log.old
         → EndsWith (P.outside platform.old).trace.written keys.now whole.chain chain.base (reverse chain.commits.items)

@@ -1,5 +1,5 @@
 //! The texts of a log, read from the last one back to that of the last checkpoint.
-ghost use Rattle.std.specs.Prelude.{◌≡◌, ◌+◌, ◌<◌, ◌≤◌, [], ◌∷◌, List, reverse, IfOk, IfErr, IsTrue};
+ghost use Rattle.std.specs.Prelude.{◌≡◌, ◌+◌, ◌<◌, ◌≤◌, [], ◌∷◌, List, reverse, IfOk, IfErr, IsTrue, OnOk};
 ghost use Rattle.std.specs.List.{AllByRecursion};
 ghost use Rattle.tdb_append.specs.Put.{slot_place};
 ghost use Rattle.tdb_base.specs.declared.piece.Digest.{Digest};
@@ -41,6 +41,7 @@ fn read_text<P: Platform>(
         → IsTextOf (P.outside platform.old).trace.written (P.outside platform.new).trace keys.now mark.now.0 c → text ≡ c) }
     ensures only { IsTrue (P.outside platform.old).tells → IfOk result (λ _. ReadsOnly (λ piece. piece ≡ record { place = record { 0 = slot_place count }; length = 256; digest = mark.now }) (P.outside platform.old) (P.outside platform.new)) }
     ensures caused { IfErr result (IsCaused (P.outside platform.old) (P.outside platform.new)) }
+    ensures quiet { OnOk result ((P.outside platform.new).faults ≡ (P.outside platform.old).faults) }
     ensures explained { IsTrue (P.outside platform.old).tells → IfErr result (λ error. (c : Commit)
         → IsTextOf (P.outside platform.old).trace.written (P.outside platform.new).trace keys.now mark.now.0 c
         → IsExplained (P.outside platform.old) (P.outside platform.new) (λ piece. piece ≡ record { place = record { 0 = slot_place count }; length = 256; digest = mark.now }) error) }
@@ -70,6 +71,7 @@ fn read_newest<P: Platform>(
     ensures only { IfOk result (λ _. EachLog (P.outside platform.old) (P.outside platform.new) keys.now (λ log. log.anchor ≡ (count, mark.now.0)
         → ReadsOnlyIn (P.outside platform.old) (P.outside platform.new) log)) }
     ensures caused { IfErr result (IsCaused (P.outside platform.old) (P.outside platform.new)) }
+    ensures quiet { OnOk result ((P.outside platform.new).faults ≡ (P.outside platform.old).faults) }
     ensures explained { IfErr result (λ error. EachLog (P.outside platform.old) (P.outside platform.new) keys.now (λ log. log.anchor ≡ (count, mark.now.0)
         → IsExplainedIn (P.outside platform.old) (P.outside platform.new) error log)) }
 {
@@ -102,6 +104,7 @@ fn read_before<P: Platform>(
         → EndsWith (P.outside platform.old).trace.written keys.now log.chain text.now later
         → ReadsOnlyIn (P.outside platform.old) (P.outside platform.new) log)) }
     ensures caused { IfErr result (IsCaused (P.outside platform.old) (P.outside platform.new)) }
+    ensures quiet { OnOk result ((P.outside platform.new).faults ≡ (P.outside platform.old).faults) }
     ensures explained { IfErr result (λ error. EachLog (P.outside platform.old) (P.outside platform.new) keys.now (λ log. (later : List Commit)
         → EndsWith (P.outside platform.old).trace.written keys.now log.chain text.now later
         → IsExplainedIn (P.outside platform.old) (P.outside platform.new) error log)) }
@@ -140,6 +143,7 @@ pub(crate) fn read_chain<P: Platform>(
     ensures only { IfOk result (λ _. EachLog (P.outside platform.old) (P.outside platform.new) keys.now (λ log. log.anchor ≡ (count, mark.now.0)
         → ReadsOnlyIn (P.outside platform.old) (P.outside platform.new) log)) }
     ensures caused { IfErr result (IsCaused (P.outside platform.old) (P.outside platform.new)) }
+    ensures quiet { OnOk result ((P.outside platform.new).faults ≡ (P.outside platform.old).faults) }
     ensures explained { IfErr result (λ error. EachLog (P.outside platform.old) (P.outside platform.new) keys.now (λ log. log.anchor ≡ (count, mark.now.0)
         → IsExplainedIn (P.outside platform.old) (P.outside platform.new) error log)) }
 {

@@ -19,6 +19,7 @@ use Rattle.tdb_recover.proofs.replay.replay.Goals as goal
 pub loop-text-init : goal.loop-text-init
 loop-text-init g c = record {
   reads = reads_nothing g.P.Platform.outside g.P.Platform.crash_states g.met.P.Platform.counts c.args.platform.now;
+  quiet = refl;
   head = refl;
   suite = refl;
   done = ([], refl);
@@ -49,6 +50,7 @@ loop-text-preserved g c =
     let behind : AllByRecursion (IsBehind base) (text ∷ reverse left) = subst (AllByRecursion (IsBehind base)) popped so_far.behind in
     record {
       reads = reads_then outside states g.met.P.Platform.counts old mid new first c.replay_list.ensures.reads;
+      quiet = c.in_ok-replay_list.ensures.quiet ∙ so_far.quiet;
       head = c.in_ok-replay_list.ensures.head ∙ so_far.head;
       suite = c.in_ok-replay_list.ensures.suite ∙ so_far.suite;
       done = (so_far.done.0 ++ text ∷ [], so_far.done.1 ∙ ap (λ (l : List Commit). so_far.done.0 ++ l) popped ∙ sym (append_assoc so_far.done.0 (text ∷ []) (reverse left)));
@@ -85,7 +87,7 @@ returns-in_err-replay_list-clause-caused g c =
     if_err_and c.from_residual.result _ _ c.from_residual.ensures.1
     (λ e is.
     subst (IsCaused (outside c.args.platform.now) (outside c.replay_list.new.platform)) (sym is)
-    (caused_later (outside c.args.platform.now) (outside c.loop-text.platform) (outside c.replay_list.new.platform) c.in_err-replay_list.field-0.0 c.loop-text.invariant.reads.faults c.in_err-replay_list.ensures.caused))
+    (caused_later (outside c.args.platform.now) (outside c.loop-text.platform) (outside c.replay_list.new.platform) c.in_err-replay_list.field-0.0 c.loop-text.invariant.quiet c.in_err-replay_list.ensures.caused))
 
 pub returns-in_err-replay_list-clause-explained : goal.returns-in_err-replay_list-clause-explained
 returns-in_err-replay_list-clause-explained g c =

@@ -9,6 +9,7 @@ use Rattle.tdb_recover.proofs.replay.replay.Given as goal
 abbrev pub invariant-loop-text : goal.invariant-loop-text
 invariant-loop-text g l = record {
   reads : OnlyReads g.P.Platform.outside g.P.Platform.crash_states l.fn.platform l.platform;
+  quiet : (g.P.Platform.outside l.platform).faults ≡ (g.P.Platform.outside l.fn.platform).faults;
   head : l.log.head ≡ l.fn.log.head;
   suite : l.log.suite ≡ l.fn.log.suite;
   done : (done : List Commit) × (reverse l.fn.chain.commits.items ≡ done ++ reverse l.commits.items);

@@ -17,6 +17,7 @@ use Rattle.tdb_recover.proofs.texts.read_chain.Goals as goal
 pub loop-text-init : goal.loop-text-init
 loop-text-init g c = record {
   reads = c.read_newest.ensures.reads;
+  quiet = c.in_ok-text.ensures.quiet;
   format = c.in_ok-text.ensures.format;
   counts = let h = c.in_ok-text.ensures.counts in (omega (arith, h.0), omega (arith, h.1));
   commits = subst (λ (l : List Commit). AllByRecursion (IsBehind c.in_ok-text.text) (reverse l)) (sym c.new-commits.ensures.items) tt;
@@ -37,7 +38,7 @@ returns-in_err-earlier-clause-caused g c =
     if_err_and c.from_residual-in_err-earlier.result _ _ c.from_residual-in_err-earlier.ensures.1
     (λ e is.
     subst (IsCaused (outside c.args.platform.now) (outside c.read_before.new.platform)) (sym is)
-    (caused_later (outside c.args.platform.now) (outside c.loop-text.platform) (outside c.read_before.new.platform) c.in_err-earlier.field-0.0 c.loop-text.invariant.reads.faults c.in_err-earlier.ensures.caused))
+    (caused_later (outside c.args.platform.now) (outside c.loop-text.platform) (outside c.read_before.new.platform) c.in_err-earlier.field-0.0 c.loop-text.invariant.quiet c.in_err-earlier.ensures.caused))
 
 pub returns-in_err-earlier-clause-explained : goal.returns-in_err-earlier-clause-explained
 returns-in_err-earlier-clause-explained g c =
@@ -81,6 +82,7 @@ loop-text-preserved g c =
     let behind = c.in_ok-earlier.ensures.behind in
     record {
       reads = reads_then outside states g.met.P.Platform.counts old mid new first c.read_before.ensures.reads;
+      quiet = c.in_ok-earlier.ensures.quiet ∙ c.loop-text.invariant.quiet;
       format = c.in_ok-earlier.ensures.format;
       counts = (omega (arith, so_far.counts.0, behind.later), omega (arith, so_far.counts.1, behind.base));
       commits = subst (λ (l : List Commit). AllByRecursion (IsBehind earlier) (reverse l)) (sym c.in_ok-push.ensures.items) (behind_pushed earlier text commits behind so_far.commits);

@@ -8,6 +8,7 @@ use Rattle.tdb_recover.proofs.texts.read_chain.Given as goal
 abbrev pub invariant-loop-text : goal.invariant-loop-text
 invariant-loop-text g l = record {
   reads : OnlyReads g.P.Platform.outside g.P.Platform.crash_states l.fn.platform l.platform;
+  quiet : (g.P.Platform.outside l.platform).faults ≡ (g.P.Platform.outside l.fn.platform).faults;
   format : IsInFormat l.text;
   counts : (l.text.count ≤ l.count) × (l.count ≤ l.text.base + 1000);
   commits : AllByRecursion (IsBehind l.text) (reverse l.commits.items);
