@@ -6,6 +6,7 @@ pub mod Keeping
 pub mod Knowing
 pub mod Laying
 pub mod Logs
+pub mod NewStores
 pub mod Sealing
 pub mod Shown
 pub mod Standing

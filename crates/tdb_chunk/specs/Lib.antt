@@ -10,6 +10,7 @@ pub mod Formatting
 pub mod Names
 pub mod Preparing
 pub mod Reading
+pub mod Settled
 pub mod Stepping
 pub mod Text
 pub mod Writing

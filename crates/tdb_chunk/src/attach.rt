@@ -1,11 +1,13 @@
 //! Opening a store on a platform.
-ghost use Rattle.std.specs.Prelude.{◌≡◌, ◌⊎◌, false, [], Err, IfErr, IfOk, IsTrue};
+ghost use Rattle.std.specs.Prelude.{◌≡◌, ◌≢◌, ◌⊎◌, false, [], Err, IfErr, IfOk, IsTrue};
 ghost use Rattle.tdb_base.specs.Rose.{Rose};
 ghost use Rattle.tdb_base.specs.declared.piece.Damage.{Damage};
 ghost use Rattle.tdb_base.specs.declared.piece.Place.{Place};
 ghost use Rattle.tdb_model.specs.Apply.{History};
 ghost use Rattle.tdb_overlay.specs.Found as found;
+ghost use Rattle.tdb_overlay.specs.Growth.{IsSettled};
 ghost use Rattle.tdb_overlay.specs.Ran.{RanOn};
+ghost use Rattle.tdb_overlay.specs.Reading.{OnlyReads};
 ghost use Rattle.tdb_overlay.specs.Required.{IsOpeningPiece};
 ghost use Rattle.tdb_overlay.specs.StoreState.{StoreState};
 ghost use Rattle.tdb_recover.specs.Damaged.{IsDamageOf};
@@ -36,6 +38,8 @@ impl<P: Platform> Store<P> {
         ensures secret { IfOk result (λ s. s.secret ≡ secret.now) }
         ensures running { IfOk result (λ s. s.stopped ≡ false) }
         ensures ready { IfOk result (IsReady P.outside P.crash_states) }
+        ensures reads { IfOk result (λ s. OnlyReads P.outside P.crash_states platform s.platform) }
+        ensures quiet { IfOk result (λ s. (P.outside s.platform).faults ≡ (P.outside platform).faults) }
         // no other piece was read than the texts, the table and the lists that the log needs
         ensures only_opening { IfOk result (λ s. (store : found.Store) (history : History) (last : StoreState)
             → Premises (P.outside platform) (P.outside s.platform) secret.now store history last
@@ -52,6 +56,10 @@ impl<P: Platform> Store<P> {
         // a piece that has its digest fits the others
         ensures form { IfErr result (λ e. (place : Place) → e.1 ≡ opens.Form place → (store : found.Store) (history : History) (last : StoreState)
             → Premises (P.outside platform) (P.outside e.0) secret.now store history last → ⊥) }
+        // the anchor was told, so a stop leaves it, and no fault is hidden
+        ensures reads_err { IfErr result (λ e. OnlyReads P.outside P.crash_states platform e.0) }
+        ensures settled_err { IfErr result (λ e. e.1 ≢ opens.Fault → IsSettled P.outside P.crash_states e.0) }
+        ensures quiet_err { IfErr result (λ e. e.1 ≢ opens.Fault → (P.outside e.0).faults ≡ (P.outside platform).faults) }
         ensures fault { IfErr result (λ e. e.1 ≡ opens.Fault → Rose (P.outside platform).faults (P.outside e.0).faults) }
     {
         let mut platform = platform;

@@ -16,6 +16,7 @@ mod opening;
 mod reading;
 mod records;
 mod store;
+mod store_format;
 #[cfg(test)]
 mod tests;
 mod text;
@@ -24,3 +25,4 @@ pub use chunk::Chunk;
 pub use format::StoreError;
 pub use open_log::OpenLog;
 pub use store::{Room, Store};
+pub use store_format::FormatError;

@@ -1,0 +1,11 @@
+pub mod Calls
+pub mod Command
+pub mod CommandValue
+pub mod Conversed
+pub mod Ends
+pub mod LastLine
+pub mod Opened
+pub mod Opens
+pub mod Ran
+pub mod Run
+pub mod StatusLine

@@ -1,0 +1,70 @@
+-- What a run comes to, by its words.
+use Rattle.std.specs.Prelude.{◌≡◌, ◌≢◌, ◌⊎◌, ◌↔◌, ◌++◌, ℕ, List, IsTrue, true, false}
+use Rattle.tdb_base.specs.declared.suite.Suite.{Suite}
+use Rattle.tdb_model.specs.Apply.{History}
+use Rattle.tdb_platform.specs.CrashStates.{CrashStates}
+use Rattle.tdb_platform.specs.Outside.{Outside}
+use Rattle.tdb_stream.specs.SinkContent.{SinkContent}
+use Rattle.tdb_stream.specs.SourceContent.{SourceContent}
+use Rattle.tdb_overlay.specs.Found.{Store}
+use Rattle.tdb_overlay.specs.Growth.{IsSettled}
+use Rattle.tdb_overlay.specs.Reading.{OnlyReads}
+use Rattle.tdb_overlay.specs.StoreState.{StoreState}
+use Rattle.tdb_recover.specs.Premises.{Premises}
+use Rattle.tdb_top.specs.Calls.{Calls}
+use Rattle.tdb_top.specs.Command.{IsFormat, IsNoCommand, IsOfNewStore, IsRun, MakesStore}
+use Rattle.tdb_top.specs.Conversed.{Conversed, TellsFaults}
+use Rattle.tdb_top.specs.LastLine.{EndsWith}
+use Rattle.tdb_top.specs.Ran.{KeepsPartitions, RunRan, StopsOf}
+use Rattle.tdb_top.specs.declared.status.Success.TheVariants.{Formatted, Script}
+use Rattle.tdb_top.specs.declared.status.Status.{Status}
+use Rattle.tdb_top.specs.declared.status.Status.TheVariants.{AnchorCount, Damaged, Done, PlatformFault, Usage}
+use Rattle.tdb_top.specs.declared.status.Finding.{Finding}
+
+-- a new store has the suite that the words say
+abbrev pub FitsWords : List (List ℕ) → Store → Type 0
+FitsWords words store = (suite : Suite) (segments : ℕ) → MakesStore words suite segments → store.suite ≡ suite
+
+-- What was made of a log that the anchor had at the start, and what a stop leaves of it.
+pub record OverLog {D : Type 0} (outside : D → Outside) (crash_states : D → CrashStates) {came gone : SourceContent}
+    {before after : SinkContent} (status : Status) (talk : Conversed came gone before after status) (old new : D) (store : Store)
+    (history : History) (from : StoreState) : Type 0 where
+  pub ran : RunRan outside crash_states store talk.conversation old new from status
+  pub stops : StopsOf outside crash_states store talk.conversation old new history from status ran
+  pub partitions : KeepsPartitions from (outside new).trace.written store history (ran.opening ++ ((ran.added ++ ran.own) ++ ran.maybe))
+
+-- Why a run ends so that carried out no script: by its words, by the count that its anchor had, and by what failed. A store that isn't
+-- opened was only read, and a stop leaves the anchor that was told.
+pub record EndsBy {D : Type 0} (outside : D → Outside) (crash_states : D → CrashStates) (words : List (List ℕ)) (old new : D)
+    (status : Status) : Type 0 where
+  pub usage : (status ≡ Usage) ↔ IsNoCommand words
+  pub already : status ≡ AnchorCount true → IsOfNewStore words × (IsTrue (outside old).tells → (outside old).anchor.0 ≢ 0)
+  pub already_always : IsOfNewStore words → IsTrue (outside old).tells → (outside old).anchor.0 ≢ 0
+      → (status ≡ AnchorCount true) ⊎ (status ≡ PlatformFault)
+  pub unformatted : status ≡ AnchorCount false → IsRun words × (IsTrue (outside old).tells → (outside old).anchor.0 ≡ 0)
+  pub unformatted_always : IsRun words → IsTrue (outside old).tells → (outside old).anchor.0 ≡ 0
+      → (status ≡ AnchorCount false) ⊎ (status ≡ PlatformFault)
+  pub formatted : (suite : Suite) (segments : ℕ) → status ≡ Done (Formatted suite segments) → IsFormat words suite segments
+  pub scripts : status ≡ Done Script → (suite : Suite) (segments : ℕ) → IsFormat words suite segments → ⊥
+  pub not_opened : (status ≡ AnchorCount true) ⊎ (status ≡ AnchorCount false)
+      → OnlyReads outside crash_states old new × IsSettled outside crash_states new
+  pub damaged : (finding : Finding) → IsRun words → status ≡ Damaged finding
+      → OnlyReads outside crash_states old new × IsSettled outside crash_states new
+
+-- What a command came to before the last line.
+pub record CarriedOut {D : Type 0} (outside : D → Outside) (crash_states : D → CrashStates) (words : List (List ℕ)) (secret : List ℕ)
+    (came gone : SourceContent) (before after : SinkContent) (old new : D) (status : Status) : Type 0 where
+  pub talk : Conversed came gone before after status
+  pub over : (store : Store) (history : History) (from : StoreState) → Premises (outside old) (outside new) secret store history from
+      → FitsWords words store → OverLog outside crash_states status talk old new store history from
+  pub ends_by : EndsBy outside crash_states words old new status
+  pub faults : TellsFaults came gone before after (outside old) (outside new) status
+  pub calls : Calls outside crash_states secret old new
+
+-- How a run was to end when it came to its last line, and how it ended by that.
+pub record RunOutcome {D : Type 0} (outside : D → Outside) (crash_states : D → CrashStates) (words : List (List ℕ)) (secret : List ℕ)
+    (came gone : SourceContent) (before after : SinkContent) (old new : D) (status : Status) : Type 0 where
+  pub meant : Status
+  pub middle : SinkContent
+  pub carried_out : CarriedOut outside crash_states words secret came gone before middle old new meant
+  pub last_line : EndsWith middle after meant status
