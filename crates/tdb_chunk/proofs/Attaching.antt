@@ -1,5 +1,5 @@
 -- A store that was opened on a platform.
-use Rattle.std.proofs.Common.{◌≡◌, Bool, List, ℕ, IsTrue, Result, Err, sym, ◌∙◌, ap, subst}
+use Rattle.std.proofs.Common.{◌≡◌, List, ℕ, IsTrue, Result, Err, sym, ◌∙◌, ap, subst}
 use Rattle.tdb_base.specs.Trace.{WrittenPiece}
 use Rattle.tdb_model.specs.Apply.{History}
 use Rattle.tdb_platform.specs.CrashStates.{CrashStates}

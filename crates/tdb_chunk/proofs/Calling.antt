@@ -46,7 +46,7 @@ use Rattle.tdb_chunk.specs.declared.open_log.OpenLog.{OpenLog}
 use Rattle.tdb_chunk.proofs.Committing.{allowed_on, next_known, next_step}
 use Rattle.tdb_chunk.proofs.Growing.{Counts, Steps, added_err, added_ok, none_added, put_added}
 use Rattle.tdb_chunk.proofs.Keeping.{put_keeps}
-use Rattle.tdb_chunk.proofs.Laying.{sealed_none}
+use Rattle.tdb_chunk.proofs.Placing.{sealed_none}
 use Rattle.tdb_overlay.proofs.PutLogs.{found_in_put, grows_all, longer_chain, follows_is, unread_by}
 use Rattle.tdb_chunk.proofs.Logs.{put_adds}
 use Rattle.tdb_chunk.proofs.Stepping.{commit_goes_on, none_step, step_err, step_ok}
@@ -107,9 +107,9 @@ pub record PutCommit {D : Type 0} (outside : D → Outside) (crash_states : D �
   pub sealed : OnlySealed secret (outside old) (outside new)
   pub steps : IsPutStep outside crash_states secret c ps old new result
 
-module _ {D : Type 0} (outside : D → Outside) (crash_states : D → CrashStates) (counts : Counts outside crash_states) (was : OpenLog) (entries : List Entry) (before : List Placed) (behind : SegmentSpace) (changes : List Change) (old new : D)
-    (prepared : IsPrepared (outside old) was entries before behind changes) (list : IsList entries) (values : AllByRecursion IsEntryValue entries) (not_full : was.log.head.count ≢ was.log.head.base + 1000) (counts_on : was.log.head.count < 18446744073709551615)
-    (c : Commit) (ps : List Placed) (space : SegmentSpace) (next : IsNext was entries before behind c ps space) (at_head : IsAtHead (outside old) was) (settled : IsSettled outside crash_states old) where
+module _ {D : Type 0} (outside : D → Outside) (crash_states : D → CrashStates) (counts : Counts outside crash_states) (was : OpenLog) (keep : ℕ) (entries : List Entry) (before : List Placed) (behind : SegmentSpace) (changes : List Change) (old new : D)
+    (prepared : IsPrepared (outside old) was keep entries before behind changes) (list : IsList entries) (values : AllByRecursion IsEntryValue entries) (not_full : was.log.head.count ≢ was.log.head.base + 1000) (counts_on : was.log.head.count < 18446744073709551615)
+    (c : Commit) (ps : List Placed) (space : SegmentSpace) (next : IsNext was keep entries before behind c ps space) (at_head : IsAtHead (outside old) was) (settled : IsSettled outside crash_states old) where
   abbrev secret : List ℕ
   secret = was.keys
 
@@ -120,8 +120,8 @@ module _ {D : Type 0} (outside : D → Outside) (crash_states : D → CrashState
   steps before_h from is known = (
     (from.count + 1, changes) ∷ [],
     committed from changes space,
-    (refl, allowed_on (outside old) was entries before behind changes prepared list not_full counts_on from known c ps space next values),
-    next_step (outside old) was entries before behind changes prepared list not_full counts_on from known c ps space next values,
+    (refl, allowed_on (outside old) was keep entries before behind changes prepared list not_full counts_on from known c ps space next values),
+    next_step (outside old) was keep entries before behind changes prepared list not_full counts_on from known c ps space next values,
   )
 
   counted : c.count ≡ was.log.head.count + 1
@@ -149,13 +149,13 @@ module _ {D : Type 0} (outside : D → Outside) (crash_states : D → CrashState
       let based : from.base ≤ c.base = omega (arith, known.base, ap (λ (k : Commit). k.base) next.commit) in
       put_keeps store (outside old) (outside new) was.log.head.count ps put.puts.done put.puts.rest c before_h from is put.reads counted next.laid.in_segments next.laid.apart
       (subst (λ (s : SegmentSpace). All (IsFreshIn s) ps) known.space next.laid.fresh) put.puts.in_order (put.puts.wrote.trace tells) (sym known.count) intact was.log.head.mark.0 ((from.count + 1, changes) ∷ []) (committed from changes space) prev some
-      (next_step (outside old) was entries before behind changes prepared list not_full counts_on from known c ps space next values) based (at_count tells) (inl (at_head tells)) unforged (put.puts.anchor tells)
+      (next_step (outside old) was keep entries before behind changes prepared list not_full counts_on from known c ps space next values) based (at_count tells) (inl (at_head tells)) unforged (put.puts.anchor tells)
 
   step_by : (result : Result Head Failed) → PutCommit outside crash_states secret was.log.head c ps old new result
       → (IsSound secret (outside old) → HasKnownLog (outside old) was)
       → RanStep outside crash_states store ((was.log.head.count + 1, changes) ∷ []) old new result
   step_by result put has = put.steps was.log.suite ((was.log.head.count + 1, changes) ∷ []) settled
-      (λ sound. commit_goes_on (outside old) was entries before behind changes prepared list values not_full counts_on c ps space next
+      (λ sound. commit_goes_on (outside old) was keep entries before behind changes prepared list values not_full counts_on c ps space next
       at_head sound.tells (has sound))
 
   pub fault_call : (now_is : OpenLog) (x : Failed) → PutCommit outside crash_states secret was.log.head c ps old new (Err x) → now_is ≡ was → IsCommitCall {T = Unit {0}} outside crash_states changes was now_is old new (Err Fault)
@@ -165,7 +165,7 @@ module _ {D : Type 0} (outside : D → Outside) (crash_states : D → CrashState
     whole = keeps_by (Err x) put;
     refused = λ last known refusal. absurd (false≢true refusal);
     allowed = λ last known. tt;
-    fault_allowed = λ is last known. (committed last changes space, allowed_on (outside old) was entries before behind changes prepared list not_full counts_on last known c ps space next values);
+    fault_allowed = λ is last known. (committed last changes space, allowed_on (outside old) was keep entries before behind changes prepared list not_full counts_on last known c ps space next values);
     kept = kept;
     platform_stays = λ isnt. absurd (isnt refl);
     at_head = tt;
@@ -215,13 +215,13 @@ module _ {D : Type 0} (outside : D → Outside) (crash_states : D → CrashState
         let at : (outside new).anchor ≡ (was.log.head.count + 1, sha256 (text_of secret c)) = put.advanced tells ∙ ap (λ (n : ℕ). (n, sha256 (text_of secret c))) counted in
         record {
           to = committed from changes space;
-          allowed = allowed_on (outside old) was entries before behind changes prepared list not_full counts_on from known c ps space next values;
+          allowed = allowed_on (outside old) was keep entries before behind changes prepared list not_full counts_on from known c ps space next values;
           log =
               put_adds store (outside old) (outside new) was.log.head.count was.log.head.mark.0 (text_in_slot secret c) ps put.puts.done put.puts.rest c before_h ((from.count + 1, changes) ∷ []) from (committed from changes space) (outside new).anchor
-              put.reads counted prev some (next_step (outside old) was entries before behind changes prepared list not_full counts_on from known c ps space next values) put.puts.in_order wrote (at_count tells) (inl (at_head tells))
+              put.reads counted prev some (next_step (outside old) was keep entries before behind changes prepared list not_full counts_on from known c ps space next values) put.puts.in_order wrote (at_count tells) (inl (at_head tells))
               (put.puts.complete refl) at unforged is;
           knows =
-              next_known (outside old) was entries before behind changes prepared list not_full counts_on from known c ps space next values (outside new) is.chain before_h
+              next_known (outside old) was keep entries before behind changes prepared list not_full counts_on from known c ps space next values (outside new) is.chain before_h
               (subst (Extends (outside old).trace) (sym wrote) (grows_all (outside old).trace put.puts.done)) finer is.ends is.tells (chain_of all at unforged is.chain (at_head tells) is.ends) now_is same_as (ap (λ (h : Head). h.count) head_next) (ap (λ (h : Head). h.base) head_next) segments overlay;
         }
 
@@ -231,7 +231,7 @@ module _ {D : Type 0} (outside : D → Outside) (crash_states : D → CrashState
       knows = longer;
       whole = keeps_by (Ok head) put;
       refused = λ last known. tt;
-      allowed = λ last known. (committed last changes space, allowed_on (outside old) was entries before behind changes prepared list not_full counts_on last known c ps space next values);
+      allowed = λ last known. (committed last changes space, allowed_on (outside old) was keep entries before behind changes prepared list not_full counts_on last known c ps space next values);
       fault_allowed = λ is. absurd (ok_is_no_err x is);
       kept = tt;
       platform_stays = tt;

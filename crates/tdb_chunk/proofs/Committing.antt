@@ -88,12 +88,12 @@ module _ (store : Store) (last : StoreState) (changes : List Change) where
   on_placed passes not_full not_end =
       ap (where_passed store last changes) passes ∙ cond-false _ _ _ (ne_eqb last.count (last.base + 1000) not_full) ∙ cond-false _ _ _ (ne_eqb last.count 18446744073709551615 not_end)
 
-  pub fits_is : kept_free changes ≡ 4 → commit_fits store last changes ≡ fits last.space (commit_lengths store (last.count + 1) last.chunks changes) 4
+  pub fits_is : (keep : ℕ) → kept_free changes ≡ keep → commit_fits store last changes ≡ fits last.space (commit_lengths store (last.count + 1) last.chunks changes) keep
   unfolding commit_fits
-  fits_is room = ap (fits last.space (commit_lengths store (last.count + 1) last.chunks changes)) room
+  fits_is keep room = ap (fits last.space (commit_lengths store (last.count + 1) last.chunks changes)) room
 
 -- Of a store that knows the last state.
-module _ (o : Outside) (was : OpenLog) (not_full : was.log.head.count ≢ was.log.head.base + 1000) (counts_on : was.log.head.count < 18446744073709551615) (last : StoreState) (known : Knows o was last) (changes : List Change) (needs : kept_free changes ≡ 4) (passes : check_commit last.chunks changes ≡ None) where
+module _ (o : Outside) (was : OpenLog) (not_full : was.log.head.count ≢ was.log.head.base + 1000) (counts_on : was.log.head.count < 18446744073709551615) (last : StoreState) (known : Knows o was last) (changes : List Change) (keep : ℕ) (needs : kept_free changes ≡ keep) (passes : check_commit last.chunks changes ≡ None) where
   goes_on : last.count ≢ last.base + 1000
   goes_on full = not_full (omega (arith, known.count, known.base, full))
 
@@ -101,22 +101,22 @@ module _ (o : Outside) (was : OpenLog) (not_full : was.log.head.count ≢ was.lo
   no_end end = absurd (omega (arith, known.count, counts_on, end))
 
   -- no room for its records or its list
-  pub no_room : (refusal : room.NoRoom) → fits was.log.segments (commit_lengths (store_of was) (last.count + 1) last.chunks changes) 4 ≡ Err refusal → commit_on (store_of was) last changes ≡ Err (NoRoom refusal)
+  pub no_room : (refusal : room.NoRoom) → fits was.log.segments (commit_lengths (store_of was) (last.count + 1) last.chunks changes) keep ≡ Err refusal → commit_on (store_of was) last changes ≡ Err (NoRoom refusal)
   no_room refusal refuses =
       on_placed (store_of was) last changes passes goes_on no_end
       ∙ ap (where_placed last changes)
-      (fits_is (store_of was) last changes needs
-      ∙ subst (λ (s : SegmentSpace). fits s (commit_lengths (store_of was) (last.count + 1) last.chunks changes) 4 ≡ Err refusal) known.space refuses)
+      (fits_is (store_of was) last changes keep needs
+      ∙ subst (λ (s : SegmentSpace). fits s (commit_lengths (store_of was) (last.count + 1) last.chunks changes) keep ≡ Err refusal) known.space refuses)
 
-  pub with_room : (places : List Place) (space : SegmentSpace) → fits was.log.segments (commit_lengths (store_of was) (last.count + 1) last.chunks changes) 4 ≡ Ok (places, space)
+  pub with_room : (places : List Place) (space : SegmentSpace) → fits was.log.segments (commit_lengths (store_of was) (last.count + 1) last.chunks changes) keep ≡ Ok (places, space)
       → (commit_fits (store_of was) last changes ≡ Ok (places, space)) × (commit_on (store_of was) last changes ≡ Ok (committed last changes space))
   with_room places space fit =
       let fits_so : commit_fits (store_of was) last changes ≡ Ok (places, space) =
-      fits_is (store_of was) last changes needs ∙ subst (λ (s : SegmentSpace). fits s (commit_lengths (store_of was) (last.count + 1) last.chunks changes) 4 ≡ Ok (places, space)) known.space fit in
+      fits_is (store_of was) last changes keep needs ∙ subst (λ (s : SegmentSpace). fits s (commit_lengths (store_of was) (last.count + 1) last.chunks changes) keep ≡ Ok (places, space)) known.space fit in
       (fits_so, on_placed (store_of was) last changes passes goes_on no_end ∙ ap (where_placed last changes) fits_so)
 
 -- Entries whose records are placed, on a state that the store knows.
-module _ (o : Outside) (was : OpenLog) (entries : List Entry) (before : List Placed) (behind : SegmentSpace) (changes : List Change) (prepared : IsPrepared o was entries before behind changes) (list : IsList entries)
+module _ (o : Outside) (was : OpenLog) (keep : ℕ) (entries : List Entry) (before : List Placed) (behind : SegmentSpace) (changes : List Change) (prepared : IsPrepared o was keep entries before behind changes) (list : IsList entries)
     (not_full : was.log.head.count ≢ was.log.head.base + 1000) (counts_on : was.log.head.count < 18446744073709551615) (last : StoreState) (known : Knows o was last) where
   as_many_are : length entries ≡ length changes
   as_many_are = as_many (in_pieces before) (λ piece bytes found. found.2) (store_of was) was.keys entries changes prepared.each
@@ -138,13 +138,13 @@ module _ (o : Outside) (was : OpenLog) (entries : List Entry) (before : List Pla
       ap (λ (ns : List ℕ). ns ++ length_of (length entries) ∷ []) lengths ∙ ap (λ (n : ℕ). records_of (store_of was) (last.count + 1) last.chunks changes ++ n ∷ []) list_length
 
   -- there was no room for the list
-  pub list_refused : (refusal : room.NoRoom) → place_in behind (length_of (length entries)) 4 ≡ Err refusal → commit_on (store_of was) last changes ≡ Err (NoRoom refusal)
+  pub list_refused : (refusal : room.NoRoom) → place_in behind (length_of (length entries)) keep ≡ Err refusal → commit_on (store_of was) last changes ≡ Err (NoRoom refusal)
   list_refused refusal refuses =
-      no_room o was not_full counts_on last known changes prepared.room pass refusal
-      (ap (λ (ns : List ℕ). fits was.log.segments ns 4) (sym all_lengths)
-      ∙ fits-refused was.log.segments (map (λ (p : Piece). p.length) (named_records entries)) 4 (length_of (length entries)) [] (map (λ (p : Piece). p.place) (named_records entries)) behind refusal prepared.fit refuses)
+      no_room o was not_full counts_on last known changes keep prepared.room pass refusal
+      (ap (λ (ns : List ℕ). fits was.log.segments ns keep) (sym all_lengths)
+      ∙ fits-refused was.log.segments (map (λ (p : Piece). p.length) (named_records entries)) keep (length_of (length entries)) [] (map (λ (p : Piece). p.place) (named_records entries)) behind refusal prepared.fit refuses)
 
-  module _ (c : Commit) (ps : List Placed) (space : SegmentSpace) (next : IsNext was entries before behind c ps space) (values : AllByRecursion IsEntryValue entries) where
+  module _ (c : Commit) (ps : List Placed) (space : SegmentSpace) (next : IsNext was keep entries before behind c ps space) (values : AllByRecursion IsEntryValue entries) where
     abbrev new : Placed
     new = record { place = next.first.place.0; bytes = next.sealed }
 
@@ -165,15 +165,15 @@ module _ (o : Outside) (was : OpenLog) (entries : List Entry) (before : List Pla
       each = each;
     }
 
-    placed_at : fits was.log.segments (commit_lengths (store_of was) (last.count + 1) last.chunks changes) 4 ≡ Ok (map (λ (p : Piece). p.place) (named_records entries ++ next.first ∷ []), space)
+    placed_at : fits was.log.segments (commit_lengths (store_of was) (last.count + 1) last.chunks changes) keep ≡ Ok (map (λ (p : Piece). p.place) (named_records entries ++ next.first ∷ []), space)
     placed_at =
-        ap (λ (ns : List ℕ). fits was.log.segments ns 4) (sym (ap (λ (n : ℕ). map (λ (p : Piece). p.length) (named_records entries) ++ n ∷ []) next.long ∙ all_lengths))
-        ∙ fits-more was.log.segments (map (λ (p : Piece). p.length) (named_records entries)) 4 (length next.sealed) (map (λ (p : Piece). p.place) (named_records entries)) behind space next.first.place prepared.fit next.place
+        ap (λ (ns : List ℕ). fits was.log.segments ns keep) (sym (ap (λ (n : ℕ). map (λ (p : Piece). p.length) (named_records entries) ++ n ∷ []) next.long ∙ all_lengths))
+        ∙ fits-more was.log.segments (map (λ (p : Piece). p.length) (named_records entries)) keep (length next.sealed) (map (λ (p : Piece). p.place) (named_records entries)) behind space next.first.place prepared.fit next.place
         ∙ ap (λ (places : List Place). let r : Result (List Place × SegmentSpace) room.NoRoom = Ok (places, space) in r) (sym (map-append (λ (p : Piece). p.place) (named_records entries) (next.first ∷ [])))
 
     -- the commit may be made
     pub allowed_on : commit_on (store_of was) last changes ≡ Ok (committed last changes space)
-    allowed_on = (with_room o was not_full counts_on last known changes prepared.room pass _ space placed_at).1
+    allowed_on = (with_room o was not_full counts_on last known changes keep prepared.room pass _ space placed_at).1
 
     -- its text is a step from the state that is known
     pub next_step : IsStep (in_pieces ps) (store_of was) last c ((last.count + 1, changes) ∷ []) (committed last changes space)
@@ -187,7 +187,7 @@ module _ (o : Outside) (was : OpenLog) (entries : List Entry) (before : List Pla
           allowed = allowed_on;
           list = has;
           owned = subst (λ (n : ℕ). AreOwned n last.chunks entries changes) (sym count) (prepared.allowed last known).owned;
-          placed = (with_room o was not_full counts_on last known changes prepared.room pass _ space placed_at).0;
+          placed = (with_room o was not_full counts_on last known changes keep prepared.room pass _ space placed_at).0;
         } in
         let step : IsStep (in_pieces (before ++ new ∷ [])) (store_of was) last d ((last.count + 1, changes) ∷ []) (committed last changes space) =
         record { suite = refl; adds = inr (changes, on, ap (λ (n : ℕ). (n, changes) ∷ []) (sym count)) } in
@@ -243,13 +243,13 @@ module _ (o : Outside) (was : OpenLog) (entries : List Entry) (before : List Pla
           }
 
 -- a list that is placed behind the records of a batch
-pub next_is : (was : OpenLog) (entries : List Entry) (before : List Placed) (behind : SegmentSpace) (sealed : List ℕ) (first : Piece) (ps : List Placed) (space : SegmentSpace) (segments : ℕ) → segments ≡ was.log.segments.segments
-    → length sealed ≡ record_length was.log.suite (16 + 72 * length entries) → first.length ≡ length sealed → first.digest.0 ≡ sha256 sealed → IsSealedRecord (system_key was.keys) (list_name was.log.suite) (list_bytes entries) sealed → place_in behind (length sealed) 4 ≡ Ok (first.place, space)
+pub next_is : (was : OpenLog) (keep : ℕ) (entries : List Entry) (before : List Placed) (behind : SegmentSpace) (sealed : List ℕ) (first : Piece) (ps : List Placed) (space : SegmentSpace) (segments : ℕ) → segments ≡ was.log.segments.segments
+    → length sealed ≡ record_length was.log.suite (16 + 72 * length entries) → first.length ≡ length sealed → first.digest.0 ≡ sha256 sealed → IsSealedRecord (system_key was.keys) (list_name was.log.suite) (list_bytes entries) sealed → place_in behind (length sealed) keep ≡ Ok (first.place, space)
     → ps ≡ before ++ record { place = first.place.0; bytes = sealed } ∷ [] → LaidOut was.keys was.log.segments behind before → was.log.head.count < 18446744073709551615 → IsList entries → LaidOut was.keys was.log.segments space ps
-    → IsNext was entries before behind (next_commit was.log.suite was.log.head 1 was.log.head.base segments first) ps space
-next_is was entries before behind sealed first ps space segments same long size digest opened place pieces_are laid counts_on list laid_now =
+    → IsNext was keep entries before behind (next_commit was.log.suite was.log.head 1 was.log.head.base segments first) ps space
+next_is was keep entries before behind sealed first ps space segments same long size digest opened place pieces_are laid counts_on list laid_now =
     let fits = record_fits was.log.suite (16 + 72 * length entries) (omega (arith, list.most)) in
-    let one = place_in-is behind laid.valid (length sealed) 4 first.place space (omega (arith, long, fits.0)) (omega (arith, long, fits.1)) place in
+    let one = place_in-is behind laid.valid (length sealed) keep first.place space (omega (arith, long, fits.0)) (omega (arith, long, fits.1)) place in
     record {
       first = first;
       commit = ap (λ (n : ℕ). next_commit was.log.suite was.log.head 1 was.log.head.base n first) same;

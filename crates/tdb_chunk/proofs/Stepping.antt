@@ -105,10 +105,10 @@ step_from outside crash_states changes was old new result steps before from log 
     (steps (λ sound. record { before = before; last = from; log = log; known = known }))
 
 -- The text of a commit that is laid comes next in the log that is known, and no other log has its anchor.
-module _ (o : Outside) (was : OpenLog) (entries : List Entry) (before : List Placed) (behind : SegmentSpace) (changes : List Change)
-    (prepared : IsPrepared o was entries before behind changes) (list : IsList entries) (values : AllByRecursion IsEntryValue entries)
+module _ (o : Outside) (was : OpenLog) (keep : ℕ) (entries : List Entry) (before : List Placed) (behind : SegmentSpace) (changes : List Change)
+    (prepared : IsPrepared o was keep entries before behind changes) (list : IsList entries) (values : AllByRecursion IsEntryValue entries)
     (not_full : was.log.head.count ≢ was.log.head.base + 1000) (counts_on : was.log.head.count < 18446744073709551615) (c : Commit)
-    (ps : List Placed) (space : SegmentSpace) (next : IsNext was entries before behind c ps space) (at_head : IsAtHead o was)
+    (ps : List Placed) (space : SegmentSpace) (next : IsNext was keep entries before behind c ps space) (at_head : IsAtHead o was)
     (tells : IsTrue o.tells) where
   abbrev added : History
   added = (was.log.head.count + 1, changes) ∷ []
@@ -130,7 +130,7 @@ module _ (o : Outside) (was : OpenLog) (entries : List Entry) (before : List Pla
   steps : (from : StoreState) → Knows o was from → IsStep (in_pieces ps) (store_of was) from c added (committed from changes space)
   steps from known = subst
       (λ (n : ℕ). IsStep (in_pieces ps) (store_of was) from c ((n + 1, changes) ∷ []) (committed from changes space)) (sym known.count)
-      (next_step o was entries before behind changes prepared list not_full counts_on from known c ps space next values)
+      (next_step o was keep entries before behind changes prepared list not_full counts_on from known c ps space next values)
 
   pub commit_goes_on : HasKnownLog o was → GoesOnWith o.trace.written (store_of was) o.anchor c ps added
   commit_goes_on has other same history from log =

@@ -1,10 +1,10 @@
 -- A read of a store that owns its platform is one of a store of chunks.
-use Rattle.std.proofs.Common.{◌≡◌, ◌≢◌, ◌⊎◌, inl, inr, ℕ, ◌+◌, ◌≤◌, Bool, true, false, List, [], ◌∷◌, ◌++◌, length, Option, Some, None, Result, Ok, Err, IfErr, IfOk, OnOk, IsTrue, is_some, refl, sym, ◌∙◌, ap, subst, arith, append_assoc, append-nil, length-append}
+use Rattle.std.proofs.Common.{◌≡◌, ◌≢◌, inl, ℕ, ◌+◌, ◌≤◌, Bool, true, false, List, [], ◌∷◌, ◌++◌, length, Option, Some, None, Result, Ok, Err, IfErr, IfOk, IsTrue, is_some, refl, sym, ◌∙◌, ap, subst, arith, append_assoc, append-nil, length-append}
 use Rattle.std.proofs.lemmas.Bool.{false≢true}
 use Rattle.std.proofs.lemmas.List.{append_cancel_left}
 use Rattle.std.specs.FinMap as finmap
 use Rattle.std.specs.Global.{Vec}
-use Rattle.std.specs.Option.{option_and_then, option_map}
+use Rattle.std.specs.Option.{option_map}
 use Rattle.sha2.specs.Sha256.{sha256}
 use Rattle.tdb_base.specs.declared.names.PartId.{PartId}
 use Rattle.tdb_base.specs.declared.names.Rank.{Rank}
@@ -12,11 +12,10 @@ use Rattle.tdb_base.specs.declared.piece.Damage.{Damage}
 use Rattle.tdb_base.specs.declared.piece.Piece.{Piece}
 use Rattle.tdb_base.specs.declared.piece.Place.{Place}
 use Rattle.tdb_base.specs.Rose.{Rose}
-use Rattle.tdb_base.specs.Trace.{Extends, IsNumbered, ReadPiece, Trace, WrittenPiece, calls_in}
+use Rattle.tdb_base.specs.Trace.{IsNumbered, ReadPiece, Trace, WrittenPiece, calls_in}
 use Rattle.tdb_mark.specs.CommitText.{commit_key_of, commit_of}
 use Rattle.tdb_mark.specs.Unforged.{IsUnforged}
 use Rattle.tdb_model.specs.Apply.{History}
-use Rattle.tdb_model.specs.Check.{is_there}
 use Rattle.tdb_model.specs.HasListed.{infos_of}
 use Rattle.tdb_model.specs.HasRead.{HasRead, ReadCause}
 use Rattle.tdb_model.specs.Lookup.{chunk_at}
@@ -27,20 +26,19 @@ use Rattle.tdb_model.specs.declared.error.ReadError.TheVariants.{Stopped, NoPart
 use Rattle.tdb_platform.specs.CrashStates.{CrashStates}
 use Rattle.tdb_platform.specs.Outside.{Anchor, Outside}
 use Rattle.tdb_seal.specs.SealedRecord.{IsSealedRecord}
-use Rattle.tdb_overlay.specs.Covering.{Covered, IsCoveredAt, IsCoveredChunk}
+use Rattle.tdb_overlay.specs.Covering.{Covered, IsCoveredAt}
 use Rattle.tdb_overlay.specs.Found.{Finds, in_trace}
 use Rattle.tdb_overlay.specs.Images.{StandsIn}
 use Rattle.tdb_overlay.specs.Keys.{partition_key}
-use Rattle.tdb_overlay.specs.Lookup.{infos_told, leader_of, seen_at, seen_in}
+use Rattle.tdb_overlay.specs.Lookup.{infos_told, leader_of, seen_at}
 use Rattle.tdb_overlay.specs.Needed.{needed}
 use Rattle.tdb_overlay.specs.Ran.{RanOn}
 use Rattle.tdb_overlay.specs.Reading.{HasRead as HasReadMore, OnlyReads}
 use Rattle.tdb_overlay.specs.Recovered.{IsRecovered}
-use Rattle.tdb_overlay.specs.Sound.{IsSound}
 use Rattle.tdb_overlay.specs.StoreState.{StoreState}
 use Rattle.tdb_overlay.specs.declared.overlay.Leader.{Leader}
 use Rattle.tdb_overlay.specs.declared.overlay.Seen.{Seen}
-use Rattle.tdb_overlay.specs.declared.overlay.Seen.TheVariants.{Base, Gone, Here}
+use Rattle.tdb_overlay.specs.declared.overlay.Seen.TheVariants.{Here}
 use Rattle.tdb_overlay.specs.declared.recovered.Recovered.{Recovered}
 use Rattle.tdb_overlay.specs.Log.{IsLog}
 use Rattle.tdb_overlay.proofs.RanLaws.{ran_reads}
@@ -49,7 +47,7 @@ use Rattle.tdb_chunk.specs.Reading.{HasShown, IsDamageOf, IsLate, name_of}
 use Rattle.tdb_chunk.specs.Shown.{Between, IsDamageOfChunk, IsMalformedChunk, IsVerifiedChunk, WasShown}
 use Rattle.tdb_chunk.specs.Standing.{IsInState, StandsAt, StoreGoes, StoreRan}
 use Rattle.tdb_chunk.specs.StoreLaws.{ran_goes, store_itself, tells_before}
-use Rattle.tdb_chunk.specs.StoreMeans.{IsSoundStore, MayLeave, store_means}
+use Rattle.tdb_chunk.specs.StoreMeans.{store_means}
 use Rattle.tdb_chunk.specs.StoreView.{StoreView, head_in, store_in, written_in}
 use Rattle.tdb_chunk.proofs.Shown.{KnownChunk, in_state, lacks}
 

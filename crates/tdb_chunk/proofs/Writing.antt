@@ -221,7 +221,7 @@ module _ (o : Outside) (store : OpenLog) (part : PartId) (chunks : List Chunk) (
   pub writes_check : (last : StoreState) → Knows o store last → check last.chunks (writes_of part chunks) ≡ None
   writes_check last known = writes_pass part w.number w.covered.home w.covered.birth [] last.chunks chunks limits (known_made o store last part.0 w known)
 
-  pub writes_prepared : (entries : List Entry) (pieces : List Placed) (space : SegmentSpace) → AreLaid store.keys store.log.segments part (leader_of w.covered) chunks entries pieces space → IsPrepared o store entries pieces space (writes_of part chunks)
+  pub writes_prepared : (entries : List Entry) (pieces : List Placed) (space : SegmentSpace) → AreLaid store.keys store.log.segments part (leader_of w.covered) chunks entries pieces space → IsPrepared o store 4 entries pieces space (writes_of part chunks)
   writes_prepared entries pieces space are = record {
     each = are.changes;
     fit = are.fit;
@@ -239,7 +239,7 @@ module _ (o : Outside) (store : OpenLog) (part : PartId) (chunks : List Chunk) (
       let changes : List Change = writes_of part chunks in
       let ns : List ℕ = records_of (store_of store) (last.count + 1) last.chunks changes in
       let n : ℕ = record_length store.log.suite (16 + 72 * length changes) in
-      no_room o store not_full counts_on last known changes (needs_four part chunks some) (few_pass last changes (omega (arith, length-map chunks (write_of part), few)) (writes_check last known)) refusal
+      no_room o store not_full counts_on last known changes 4 (needs_four part chunks some) (few_pass last changes (omega (arith, length-map chunks (write_of part), few)) (writes_check last known)) refusal
       (fits-append store.log.segments ns (n ∷ []) 4
       ∙ ap (λ (r : Result (List Place × SegmentSpace) room.NoRoom). fits_after r (n ∷ []) 4)
       (ap (λ (l : List ℕ). fits store.log.segments l 4) (writes_lengths part w.number w.covered.home w.covered.birth (store_of store) (last.count + 1) last.chunks chunks (known_made o store last part.0 w known)) ∙ refuses))
@@ -277,7 +277,7 @@ makes_pass state one two = rw (one, get_inserted state 1 (made 0 1 Plain) 2, two
 pub makes_check : (o : Outside) (store : OpenLog) → HasNeither store.log.overlay → (last : StoreState) → Knows o store last → check last.chunks (opening_changes Plain) ≡ None
 makes_check o store neither last known = makes_pass last.chunks (known_absent o store last 1 neither.0 known) (known_absent o store last 2 neither.1 known)
 
-pub makes_prepared : (o : Outside) (store : OpenLog) (pieces : List Placed) → HasNeither store.log.overlay → IsPrepared o store (make_entry 1 ∷ make_entry 2 ∷ []) pieces store.log.segments (opening_changes Plain)
+pub makes_prepared : (o : Outside) (store : OpenLog) (pieces : List Placed) → HasNeither store.log.overlay → IsPrepared o store 4 (make_entry 1 ∷ make_entry 2 ∷ []) pieces store.log.segments (opening_changes Plain)
 unfolding fits
 makes_prepared o store pieces neither = record {
   each = ((refl, refl, refl), ((refl, refl, refl), tt));

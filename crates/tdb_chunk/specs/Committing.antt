@@ -1,11 +1,11 @@
 -- What a commit does to an open log and to the platform.
-use Rattle.std.specs.Prelude.{◌≡◌, ◌≢◌, ◌+◌, ◌≤◌, ℕ, Bool, true, false, List, [], ◌∷◌, ◌++◌, Result, Ok, Err, IsTrue, IfErr, OnOk}
+use Rattle.std.specs.Prelude.{◌≡◌, ◌≢◌, ◌+◌, ◌<◌, ◌≤◌, ℕ, Bool, true, false, List, [], ◌∷◌, ◌++◌, Result, Ok, Err, IsTrue, IfErr, OnOk}
 use Rattle.tdb_base.specs.Trace.{Extends}
 use Rattle.tdb_mark.specs.CommitText.{commit_key_of, commit_of}
 use Rattle.tdb_mark.specs.Unforged.{IsUnforged}
 use Rattle.tdb_model.specs.declared.change.Change.{Change}
 use Rattle.tdb_model.specs.declared.error.CommitError.{CommitError}
-use Rattle.tdb_model.specs.declared.error.CommitError.TheVariants.{Fault, Memory, NoRoom}
+use Rattle.tdb_model.specs.declared.error.CommitError.TheVariants.{CounterEnd, Fault, Memory, NoRoom, Stopped, TooManyChanges}
 use Rattle.tdb_model.specs.Apply.{History}
 use Rattle.tdb_platform.specs.Outside.{Anchor, Outside, Rose}
 use Rattle.tdb_platform.specs.CrashStates.{CrashStates, now, LeavesOnly}
@@ -54,6 +54,13 @@ is_early Memory = false
 is_early Fault = false
 is_early (NoRoom refusal) = false
 is_early _ = true
+
+-- What a refusal says of itself, whatever the log: of the number of changes and of the count of the last text.
+abbrev pub IsRightOf : ℕ → ℕ → CommitError → Type 0
+IsRightOf number count Stopped = ⊥
+IsRightOf number count (TooManyChanges many) = (many ≡ number) × (1024 < number)
+IsRightOf number count CounterEnd = count ≡ 18446744073709551615
+IsRightOf number count _ = Unit {0}
 
 -- After Ok the log is one commit longer, and the store knows the state behind it.
 pub record IsLonger (old new : Outside) (was now : OpenLog) (changes : List Change) (before : History) (from : StoreState) : Type 0 where

@@ -36,15 +36,15 @@ pub record IsAllowed (entries : List Entry) (changes : List Change) (last : Stor
   pub passes : check last.chunks changes ≡ None
   pub owned : AreOwned (last.count + 1) last.chunks entries changes
 
--- Entries of changes whose records are placed from the store's segments on. They need room.
-pub record IsPrepared (outside : Outside) (store : OpenLog) (entries : List Entry) (pieces : List Placed) (space : SegmentSpace) (changes : List Change) : Type 0 where
+-- Entries of changes whose records are placed from the store's segments on, while as many stay free as the changes ask.
+pub record IsPrepared (outside : Outside) (store : OpenLog) (keep : ℕ) (entries : List Entry) (pieces : List Placed) (space : SegmentSpace) (changes : List Change) : Type 0 where
   pub each : AreChangesOf (in_pieces pieces) store.keys entries changes
-  pub fit : fits store.log.segments (map (λ p. p.length) (named_records entries)) 4 ≡ Ok (map (λ p. p.place) (named_records entries), space)
-  pub room : kept_free changes ≡ 4
+  pub fit : fits store.log.segments (map (λ p. p.length) (named_records entries)) keep ≡ Ok (map (λ p. p.place) (named_records entries), space)
+  pub room : kept_free changes ≡ keep
   pub allowed : (last : StoreState) → Knows outside store last → IsAllowed entries changes last
 
--- The list of the entries is laid behind the records, and the next text names it.
-pub record IsNext (store : OpenLog) (entries : List Entry) (before : List Placed) (behind : SegmentSpace) (c : Commit) (pieces : List Placed) (space : SegmentSpace) : Type 0 where
+-- The list of the entries is laid behind the records, while so many segments stay free, and the next text names it.
+pub record IsNext (store : OpenLog) (keep : ℕ) (entries : List Entry) (before : List Placed) (behind : SegmentSpace) (c : Commit) (pieces : List Placed) (space : SegmentSpace) : Type 0 where
   pub first : Piece
   pub commit : c ≡ next_commit store.log.suite store.log.head 1 store.log.head.base store.log.segments.segments first
   pub in_format : IsInFormat c
@@ -53,6 +53,6 @@ pub record IsNext (store : OpenLog) (entries : List Entry) (before : List Placed
   pub size : first.length ≡ length sealed
   pub digest : first.digest.0 ≡ sha256 sealed
   pub opened : IsSealedRecord (system_key store.keys) (list_name store.log.suite) (list_bytes entries) sealed
-  pub place : place_in behind (length sealed) 4 ≡ Ok (first.place, space)
+  pub place : place_in behind (length sealed) keep ≡ Ok (first.place, space)
   pub pieces_are : pieces ≡ before ++ record { place = first.place.0; bytes = sealed } ∷ []
   pub laid : LaidOut store.keys store.log.segments space pieces

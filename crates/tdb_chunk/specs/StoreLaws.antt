@@ -16,12 +16,11 @@ use Rattle.tdb_overlay.specs.Log.{IsLog}
 use Rattle.tdb_overlay.specs.Ran.{RanOn}
 use Rattle.tdb_overlay.specs.SealedOnly.{OnlySealed}
 use Rattle.tdb_overlay.specs.Sound.{IsSound}
-use Rattle.tdb_overlay.specs.StoreState.{StoreState}
 use Rattle.tdb_overlay.proofs.RanLaws.{ran_after, ran_itself, ran_then, ran_wider, reliable_after, sound_earlier}
 use Rattle.tdb_overlay.proofs.SealedPuts.{only_sealed_along, only_sealed_none}
 use Rattle.tdb_chunk.specs.Shown.{Between}
 use Rattle.tdb_chunk.specs.Standing.{StandsAt, StoreGoes, StoreRan}
-use Rattle.tdb_chunk.specs.StoreMeans.{MayLeave, ShowsDamage, Tells, store_means}
+use Rattle.tdb_chunk.specs.StoreMeans.{ShowsDamage, Tells, store_means}
 use Rattle.tdb_chunk.specs.StoreView.{StoreView, store_in}
 
 module _ {P : Type 0} (outside : P → Outside) (crash_states : P → CrashStates)

@@ -141,7 +141,13 @@ impl OpenLog {
             Ok(()) => {
                 let batch = Batch::new(alloc, self.log.segments);
                 self.log.segments.known();
-                self.commit_entries(alloc, platform, &[make_part(1), make_part(2)], batch)
+                self.commit_entries(
+                    alloc,
+                    platform,
+                    &[make_part(1), make_part(2)],
+                    batch,
+                    KEPT_FREE,
+                )
             }
             Err(refusal) => Err(refusal),
         }
@@ -174,7 +180,7 @@ impl OpenLog {
         match self.may_follow(chunks.len()) {
             Ok(()) => match self.lay_writes(alloc, part, chunks) {
                 Ok(Writes { entries, batch }) => {
-                    self.commit_entries(alloc, platform, &entries, batch)
+                    self.commit_entries(alloc, platform, &entries, batch, KEPT_FREE)
                 }
                 Err(error) => Err(refused(error)),
             },

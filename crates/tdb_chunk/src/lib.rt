@@ -11,11 +11,14 @@ mod changes;
 mod chunk;
 mod commit;
 mod format;
+mod laying;
 mod open_log;
 mod opening;
+mod owner;
 mod reading;
 mod records;
 mod store;
+mod store_chunks;
 mod store_format;
 #[cfg(test)]
 mod tests;

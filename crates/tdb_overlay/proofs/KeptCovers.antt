@@ -11,7 +11,7 @@ use Rattle.tdb_model.specs.Memory.{seen_as}
 use Rattle.tdb_model.proofs.MemoryLemmas.{get_seen, seen_inserted, seen_removed, seen_written}
 use Rattle.tdb_overlay.specs.Covering.{Covered, Covers, with_cover, cover_copied}
 use Rattle.tdb_overlay.specs.Memory.{covered_of, covers_in}
-use Rattle.tdb_overlay.specs.declared.overlay.KeptPartition.{KeptPartition}
+use Rattle.tdb_overlay.specs.declared.kept.KeptPartition.{KeptPartition}
 
 pub found_in : (m : BTreeMap ℕ KeptPartition) (covers : Covers) (part : ℕ) (found : Option KeptPartition) → covers_in m ≡ covers → tree.get nat_cmp m part ≡ found → get covers part ≡ option_map covered_of found
 found_in m covers part found is there = sym (ap (λ (s : Covers). get s part) is) ∙ get_seen covered_of m part ∙ ap (option_map covered_of) there

@@ -17,7 +17,7 @@ use Rattle.tdb_overlay.specs.Covering.{Covered, Covers, IsCoveredAt, IsCovering}
 use Rattle.tdb_overlay.specs.Found.{Finds}
 use Rattle.tdb_overlay.specs.Lookup.{info_told, infos_told, leader_of}
 use Rattle.tdb_overlay.specs.Memory.{covered_of, covers_in}
-use Rattle.tdb_overlay.specs.declared.overlay.KeptPartition.{KeptPartition}
+use Rattle.tdb_overlay.specs.declared.kept.KeptPartition.{KeptPartition}
 
 -- what is told of an entry of the ordered map
 abbrev pub told_of : (ℕ × KeptPartition) → PartInfo

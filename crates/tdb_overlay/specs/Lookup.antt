@@ -1,5 +1,5 @@
 -- What the change lists say of a partition, and of one rank. A partition that isn't there has no rank that was changed.
-use Rattle.std.specs.Prelude.{ℕ, List, map, Option, Some, None}
+use Rattle.std.specs.Prelude.{◌≤◌, ℕ, List, map, Option, Some, None}
 use Rattle.std.specs.FinMap.{entries, get}
 use Rattle.std.specs.Option.{option_and_then}
 use Rattle.tdb_base.specs.declared.names.PartId.{PartId}
@@ -13,6 +13,10 @@ use Rattle.tdb_overlay.specs.declared.overlay.Seen.TheVariants.{Base, Gone, Here
 -- what is told of a partition
 abbrev pub leader_of : Covered → Leader
 leader_of p = record { suite = p.suite; home = p.home; birth = p.birth; next = p.next; parent = p.parent; born = p.born }
+
+-- the numbers of a partition's key are in range: its home is one of the 4,095 partitions, and its birth the count of a commit
+abbrev pub NamesKey : Leader → Type 0
+NamesKey leader = (1 ≤ leader.home) × (leader.home ≤ 4095) × (1 ≤ leader.birth)
 
 -- what a partition's edits say of a rank
 abbrev pub seen_in : Option (Option Piece) → Seen

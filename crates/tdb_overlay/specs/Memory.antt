@@ -7,7 +7,7 @@ use Rattle.tdb_base.specs.declared.piece.Piece.{Piece}
 use Rattle.tdb_base.specs.declared.suite.Suite.{Suite}
 use Rattle.tdb_model.specs.Memory.{seen_as, coded_suite}
 use Rattle.tdb_overlay.specs.Covering.{Covered, Covers, Edits}
-use Rattle.tdb_overlay.specs.declared.overlay.KeptPartition.{KeptPartition}
+use Rattle.tdb_overlay.specs.declared.kept.KeptPartition.{KeptPartition}
 
 -- what a partition in memory tells
 abbrev pub covered_of : KeptPartition → Covered

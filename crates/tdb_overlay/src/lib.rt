@@ -7,6 +7,7 @@
 #![tactic(auto)]
 
 mod fetching;
+mod kept;
 mod keys;
 mod laws;
 mod overlay;

@@ -1,14 +1,15 @@
 //! The partitions as change lists tell them.
-ghost use Rattle.std.specs.Prelude.{◌≡◌, ◌<◌, IfOk, OnOk};
+ghost use Rattle.std.specs.Prelude.{◌≡◌, ◌<◌, ◌≤◌, IfOk, IfSome, OnOk};
 ghost use Rattle.std.specs.FinMap as map;
 ghost use Rattle.std.specs.Option.{option_map};
 ghost use Rattle.tdb_list.specs.ChangeList.{IsList};
 ghost use Rattle.tdb_list.specs.Entry.{IsEntry};
 ghost use Rattle.tdb_overlay.specs.Covering.{no_covers, suite_numbered, cover_written, cover_freed, cover_copied, cover_made, with_cover, noted, noted_all};
-ghost use Rattle.tdb_overlay.specs.Lookup.{info_told, infos_told, leader_of, seen_in, seen_at};
+ghost use Rattle.tdb_overlay.specs.Lookup.{NamesKey, info_told, infos_told, leader_of, seen_in, seen_at};
 ghost use Rattle.tdb_overlay.specs.Memory.{covered_of};
 ghost use Rattle.tdb_overlay.specs.Reserving.{IsReserved};
 
+use crate::kept::KeptPartition;
 use std::alloc::{AllocError, Global};
 use std::collections::BTreeMap;
 use std::marker::Model;
@@ -84,13 +85,6 @@ pub(crate) struct Spare {
 #[derive(Drop)]
 pub(crate) struct Partitions {
     by_number: BTreeMap<u32, KeptPartition>,
-}
-
-/// What is kept of a partition.
-#[derive(Drop)]
-pub(crate) struct KeptPartition {
-    leader: Leader,
-    edits: BTreeMap<u32, Option<Piece>>,
 }
 
 impl Model for Overlay {
@@ -215,7 +209,8 @@ impl Overlay {
     ///
     /// Where memory runs out some of them may have been taken in: the value is of no use then.
     pub fn note(&mut self, alloc: Global, count: u64, entries: &[Entry]) -> Result<(), AllocError>
-        requires { IsList entries.now }
+        requires list { IsList entries.now }
+        requires some { 1 ≤ count }
         ensures ok { OnOk result (self.new ≡ noted_all count self.old entries.now) }
     {
         self.spare = None;
@@ -232,7 +227,8 @@ impl Overlay {
         count: u64,
         entries: &[Entry],
     ) -> Result<Reserved, AllocError>
-        requires { IsList entries.now }
+        requires list { IsList entries.now }
+        requires some { 1 ≤ count }
         ensures stays { self.new ≡ self.old }
         ensures same { IfOk result (λ reserved. (reserved.count ≡ count) × (reserved.entries.items ≡ entries.now)) }
         ensures ready { IfOk result (λ reserved. IsReserved self.old reserved) }
@@ -268,7 +264,8 @@ impl Overlay {
 
     /// What is told of a partition, or `None` where it isn't there. It takes no memory.
     pub fn leader(&self, part: PartId) -> Option<Leader>
-        ensures { result ≡ option_map leader_of (map.get self.now part.0) }
+        ensures found { result ≡ option_map leader_of (map.get self.now part.0) }
+        ensures named { IfSome result NamesKey }
     {
         self.current.leader(part)
     }
@@ -305,7 +302,8 @@ impl Overlay {
 impl Spare {
     // The partitions with the list taken in.
     fn caught_up(self, alloc: Global) -> Result<Partitions, AllocError>
-        requires { IsList self.entries.items }
+        requires list { IsList self.entries.items }
+        requires some { 1 ≤ self.count }
         ensures { IfOk result (λ next. next ≡ noted_all self.count self.before self.entries.items) }
     {
         let mut next = self.before;
@@ -332,7 +330,8 @@ impl Partitions {
     }
 
     fn note(&mut self, alloc: Global, count: u64, entries: &[Entry]) -> Result<(), AllocError>
-        requires { IsList entries.now }
+        requires list { IsList entries.now }
+        requires some { 1 ≤ count }
         ensures ok { OnOk result (self.new ≡ noted_all count self.old entries.now) }
     {
         for entry in entries {
@@ -351,7 +350,8 @@ impl Partitions {
     }
 
     fn leader(&self, part: PartId) -> Option<Leader>
-        ensures { result ≡ option_map leader_of (map.get self.now part.0) }
+        ensures found { result ≡ option_map leader_of (map.get self.now part.0) }
+        ensures named { IfSome result NamesKey }
     {
         match self.by_number.get(&part.0) {
             Some(partition) => Some(partition.leader),
@@ -370,7 +370,8 @@ impl Partitions {
     }
 
     fn note_entry(&mut self, alloc: Global, count: u64, entry: &Entry) -> Result<(), AllocError>
-        requires { IsEntry entry.now }
+        requires entry { IsEntry entry.now }
+        requires some { 1 ≤ count }
         ensures { OnOk result (self.new ≡ noted count self.old entry.now) }
     {
         match entry.kind {
@@ -405,6 +406,8 @@ impl Partitions {
     }
 
     fn make(&mut self, alloc: Global, count: u64, entry: &Entry) -> Result<(), AllocError>
+        requires number { (1 ≤ entry.now.part) × (entry.now.part ≤ 4095) }
+        requires some { 1 ≤ count }
         ensures { OnOk result (self.new ≡ map.insert self.old entry.now.part (cover_made count entry.now)) }
     {
         let partition = KeptPartition {

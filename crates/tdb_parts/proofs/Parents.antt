@@ -24,7 +24,8 @@ find_bare [] q = refl
 find_bare (e ∷ es) q = ap (cond (eq_by_cmp nat_cmp q e.0) (Some (bare e.1))) (find_bare es q)
     ∙ sym (under_map (eq_by_cmp nat_cmp q e.0) (Some e.1) (find nat_cmp q es))
 
-get_bare : (covers : Covers) (q : ℕ) → get (bare_state covers) q ≡ option_map bare (get covers q)
+-- a partition of it is the one that is told, without its chunks
+pub get_bare : (covers : Covers) (q : ℕ) → get (bare_state covers) q ≡ option_map bare (get covers q)
 get_bare covers q = get-from_entries nat_cmp_total _ q ∙ find_bare (entries covers) q ∙ ap (option_map bare) (sym (get-entries covers q))
 
 -- the parent that is told

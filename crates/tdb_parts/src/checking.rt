@@ -6,6 +6,7 @@ ghost use Rattle.tdb_model.specs.Check as model;
 ghost use Rattle.tdb_model.specs.State.{State};
 ghost use Rattle.tdb_overlay.specs.Covering.{IsCovering};
 ghost use Rattle.tdb_overlay.specs.Found.{in_trace};
+ghost use Rattle.tdb_parts.specs.BareState.{bare_state};
 
 use tdb_base::PartId;
 use tdb_model::{Change, CommitError, Partitions, check_each};
@@ -33,8 +34,9 @@ impl Partitions for Told<'_> {
 /// Whether changes are refused, and why: each against the state that the overlay covers after the changes before it. The
 /// number of the changes is not tested. It takes no memory.
 pub fn check(overlay: &Overlay, changes: &[Change]) -> Result<(), CommitError>
-    ensures { (written : List WrittenPiece) (secret : List ℕ) (state : State) → IsCovering (in_trace written) secret overlay.now state
+    ensures state { (written : List WrittenPiece) (secret : List ℕ) (state : State) → IsCovering (in_trace written) secret overlay.now state
         → result_err result ≡ model.check state changes.now }
+    ensures bare { result_err result ≡ model.check (bare_state overlay.now) changes.now }
 {
     check_each(&Told { overlay }, changes)
 }

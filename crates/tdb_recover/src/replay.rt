@@ -1,5 +1,5 @@
 //! The lists of a log, taken in one after another.
-ghost use Rattle.std.specs.Prelude.{◌≡◌, List, reverse, Ok, Err, OnOk, IfErr, IsTrue};
+ghost use Rattle.std.specs.Prelude.{◌≡◌, ◌≤◌, List, reverse, Ok, Err, OnOk, IfErr, IsTrue};
 ghost use Rattle.std.specs.List.{AllByRecursion};
 ghost use Rattle.tdb_model.specs.declared.change.Change.{Change};
 ghost use Rattle.tdb_overlay.specs.Changes.{named_records};
@@ -54,6 +54,7 @@ fn replay_list<P: Platform>(
     log: &mut Recovered,
     text: &Commit,
 ) -> Result<(), OpenError>
+    requires { 1 ≤ text.now.count }
     ensures reads { OnlyReads P.outside P.crash_states platform.old platform.new }
     ensures head { OnOk result (log.new.head ≡ log.old.head) }
     ensures suite { OnOk result (log.new.suite ≡ log.old.suite) }

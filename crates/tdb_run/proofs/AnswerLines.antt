@@ -12,7 +12,7 @@ use Rattle.tdb_run.specs.Script.{Answer, ScriptState}
 use Rattle.tdb_run.specs.Session.{IsAnswerBetween}
 use Rattle.tdb_run.specs.declared.session.Session as session
 use Rattle.tdb_run.specs.declared.status.Status.{Status}
-use Rattle.tdb_chunk.specs.declared.store.Store as chunk
+use Rattle.tdb_chunk.specs.declared.open_log.OpenLog.{OpenLog}
 use Rattle.tdb_run.proofs.ReadingLines.{ends_weaker}
 
 -- the answer to a line of the grammar, between two moments
@@ -26,7 +26,7 @@ both_ok (Err e) P Q one two = tt
 
 -- an answer is one by a weaker test too
 module _ {D : Type 0} (outside : D → Outside) (crash_states : D → CrashStates) (store : Store) (old new : D) (history : History) (P Q : Answer → Type 0) (weaker : (given : Answer) → P given → Q given) where
-  pub answered_weaker : (reply : Reply) (kept : chunk.Store) (made : session.Session) → AnsweredBy outside crash_states store old new history P reply kept made
+  pub answered_weaker : (reply : Reply) (kept : OpenLog) (made : session.Session) → AnsweredBy outside crash_states store old new history P reply kept made
       → AnsweredBy outside crash_states store old new history Q reply kept made
   answered_weaker reply kept made is = record {
     given = is.given;

@@ -22,7 +22,7 @@ use Rattle.tdb_run.specs.Served.{ScriptRan}
 use Rattle.tdb_run.specs.SessionState.{IsSessionAt, transaction_in}
 use Rattle.tdb_run.specs.declared.session.Session as session
 use Rattle.tdb_run.specs.declared.status.Status.{Status}
-use Rattle.tdb_chunk.specs.declared.store.Store as memory
+use Rattle.tdb_chunk.specs.declared.open_log.OpenLog.{OpenLog}
 use Rattle.tdb_run.proofs.ReadingLines.{none_at_end}
 use Rattle.tdb_run.proofs.Conversing.{no_conversation}
 use Rattle.tdb_run.proofs.Ran.{none_at_any}
@@ -40,7 +40,7 @@ first_as_told finds secret (Some covered) None at = absurd at
 first_as_told finds secret None (Some partition) at = absurd at
 
 -- The session that begins with a store stands where its script begins.
-pub session_begins : (finds : Finds) (kept : memory.Store) (from : StoreState) (leader : Option Leader) (made : session.Session) → IsStoreAt finds kept from → leader ≡ option_map leader_of (get kept.log.overlay 1)
+pub session_begins : (finds : Finds) (kept : OpenLog) (from : StoreState) (leader : Option Leader) (made : session.Session) → IsStoreAt finds kept from → leader ≡ option_map leader_of (get kept.log.overlay 1)
     → made.next_id ≡ first_told leader → transaction_in made.transaction ≡ None → IsSessionAt made (script_at from)
 session_begins finds kept from leader made at told id none = record {
   next_id = id ∙ ap first_told told ∙ first_as_told finds kept.keys (get kept.log.overlay 1) (get from.chunks 1) (at.chunks 1);

@@ -18,7 +18,7 @@ use Rattle.tdb_run.specs.Script.{Answer, ScriptState, changes_of, closed, commit
 use Rattle.tdb_run.specs.SessionState.{IsPureAnswer, IsSessionAt, notes_of, numbered, transaction_in, transaction_of}
 use Rattle.tdb_run.specs.declared.session.Session.{Session}
 use Rattle.tdb_run.specs.declared.status.Status.{Status}
-use Rattle.tdb_chunk.specs.declared.store.Store as chunk
+use Rattle.tdb_chunk.specs.declared.open_log.OpenLog.{OpenLog}
 use Rattle.tdb_run.specs.declared.transaction.Transaction.{Transaction}
 use Rattle.tdb_run.proofs.Transactions.{answered_in, numbered_some, refused_in}
 
@@ -61,7 +61,7 @@ module _ (store : Store) (session : Session) (number : TxId) (open' : Transactio
 
     module _ {D : Type 0} (outside : D → Outside) (crash_states : D → CrashStates) (old new : D) (history : History) where
       -- the commit was made
-      pub committed_line : (kept : chunk.Store) (next : Session) → next.next_id ≡ session.next_id → next.transaction ≡ None → IsCommitted outside crash_states store old new history state.store changes kept
+      pub committed_line : (kept : OpenLog) (next : Session) → next.next_id ≡ session.next_id → next.transaction ≡ None → IsCommitted outside crash_states store old new history state.store changes kept
           → AnsweredBy outside crash_states store old new history (IsCommitAnswer store state number) (Committed number) kept next
       committed_line kept next same closed' is = record {
         given = tried state (transaction_of open') changes (Ok is.to);

@@ -9,7 +9,7 @@ use Rattle.tdb_platform.specs.CrashStates.{CrashStates, LeavesOnly, Pairs}
 use Rattle.tdb_platform.proofs.Moments.{started}
 use Rattle.tdb_chunk.specs.Committing.{HasGrownFrom, IsCommitCall}
 use Rattle.tdb_chunk.specs.Known.{Knows, store_of}
-use Rattle.tdb_chunk.specs.declared.store.Store as memory
+use Rattle.tdb_chunk.specs.declared.open_log.OpenLog.{OpenLog}
 use Rattle.tdb_overlay.specs.Found.{Store}
 use Rattle.tdb_overlay.specs.Growth.{IsSettled, OneCommit, OrNothing, UnlessErr}
 use Rattle.tdb_overlay.specs.Log.{IsLog}
@@ -32,7 +32,7 @@ fault_or other = inr (λ is. absurd (cc is))
 pub none_of : (o : Outside) (store : Store) (history maybe : History) (from : StoreState) → IsLog o.trace.written store o.anchor history from → HasAllOf o.trace.written store history [] maybe o.anchor
 none_of o store history maybe from is = (from, inl (subst (λ (h : History). IsLog o.trace.written store o.anchor h from) (sym (append-nil history)) is))
 
-module _ {D : Type 0} (outside : D → Outside) (crash_states : D → CrashStates) (counts : Counts outside crash_states) (changes : List Change) (was : memory.Store) (old new : D) (told : IsTrue (outside old).tells) (history : History) (from : StoreState) where
+module _ {D : Type 0} (outside : D → Outside) (crash_states : D → CrashStates) (counts : Counts outside crash_states) (changes : List Change) (was : OpenLog) (old new : D) (told : IsTrue (outside old).tells) (history : History) (from : StoreState) where
   abbrev store : Store
   store = store_of was
 
@@ -53,7 +53,7 @@ module _ {D : Type 0} (outside : D → Outside) (crash_states : D → CrashState
           )
 
     -- the commit was made
-    pub committed : {T : Type 0} (now_is : memory.Store) (x : T) → IsCommitCall outside crash_states changes was now_is old new (Ok x) → IsCommitted outside crash_states store old new history from changes now_is
+    pub committed : {T : Type 0} (now_is : OpenLog) (x : T) → IsCommitCall outside crash_states changes was now_is old new (Ok x) → IsCommitted outside crash_states store old new history from changes now_is
     committed now_is x call =
         let longer = call.knows told sound history from is at in
         record {
@@ -65,7 +65,7 @@ module _ {D : Type 0} (outside : D → Outside) (crash_states : D → CrashState
           any_moment = leaves_weaker outside crash_states old new _ _ (call.added told).any_moment (λ i a grown. part_of_grown a grown);
         }
 
-    module _ {T : Type 0} (now_is : memory.Store) (e : CommitError) (call : IsCommitCall {T = T} outside crash_states changes was now_is old new (Err e)) (settled : IsSettled outside crash_states old) where
+    module _ {T : Type 0} (now_is : OpenLog) (e : CommitError) (call : IsCommitCall {T = T} outside crash_states changes was now_is old new (Err e)) (settled : IsSettled outside crash_states old) where
       may_after_fault : e ≡ refusals.Fault → MayBeCommitted outside crash_states store old new history from changes
       may_after_fault fault =
           let to = call.fault_allowed (ap (λ (f : CommitError). Err f) fault) from at in

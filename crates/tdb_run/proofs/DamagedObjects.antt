@@ -4,7 +4,7 @@ use Rattle.tdb_platform.specs.Outside.{Outside}
 use Rattle.tdb_overlay.specs.StoreState.{StoreState}
 use Rattle.tdb_chunk.specs.Known.{store_of}
 use Rattle.tdb_chunk.specs.Reading.{HasReadPiece, IsDamagedChunk}
-use Rattle.tdb_chunk.specs.declared.store.Store as chunk
+use Rattle.tdb_chunk.specs.declared.open_log.OpenLog.{OpenLog}
 use Rattle.std.proofs.Common.{◌≡◌, ◌≢◌, ◌⊎◌, ◌+◌, ⊎_elim, inl, inr, ℕ, IsTrue, List, Option, Some, None, is_some, Result, Err, true, false, refl, ◌∙◌, ap}
 use Rattle.std.specs.FinMap.{get}
 use Rattle.std.specs.Option.{option_and_then}
@@ -16,7 +16,7 @@ use Rattle.tdb_model.specs.State.{Partition}
 use Rattle.tdb_run.specs.LineReads.{HasReadFor}
 use Rattle.tdb_run.specs.Session.{IsDamagedObject}
 
-pub damaged_object : (kept : chunk.Store) (old new : Outside) (last : StoreState) (id : ℕ) (damage : Damage) → IsDamagedChunk old new kept last 1 id damage → IsDamagedObject (store_of kept) old new last.chunks id
+pub damaged_object : (kept : OpenLog) (old new : Outside) (last : StoreState) (id : ℕ) (damage : Damage) → IsDamagedChunk old new kept last 1 id damage → IsDamagedObject (store_of kept) old new last.chunks id
 damaged_object kept old new last id damage is = record {
   piece = is.piece;
   required = is.required;
@@ -31,14 +31,14 @@ damaged_object kept old new last id damage is = record {
 }
 
 -- what was damaged is there
-pub damaged_is_there : (kept : chunk.Store) (old new : Outside) (last : StoreState) (id : ℕ) (damage : Damage) (is : IsDamagedChunk old new kept last 1 id damage) → chunk_at last.chunks 1 id ≡ Some is.chunk
+pub damaged_is_there : (kept : OpenLog) (old new : Outside) (last : StoreState) (id : ℕ) (damage : Damage) (is : IsDamagedChunk old new kept last 1 id damage) → chunk_at last.chunks 1 id ≡ Some is.chunk
 damaged_is_there kept old new last id damage is = ap (option_and_then (λ (p : Partition). get p.chunks id)) is.is_there ∙ is.has
 
-pub one_read : (kept : chunk.Store) (old new : Outside) → HasReadPiece old new kept → HasReadFor true old new
+pub one_read : (kept : OpenLog) (old new : Outside) → HasReadPiece old new kept → HasReadFor true old new
 one_read kept old new is = (record { bytes = is.bytes; place = is.piece.place.0; call = calls_in old.trace + 1; asked = is.piece.length }, ap (λ (t : Trace). t.read) is.read)
 
 -- one piece was read, or none
-pub at_most_one : (kept : chunk.Store) (old new : Outside) (gets : Type 0) → gets → (new.trace ≡ old.trace) ⊎ HasReadPiece old new kept → HasReadFor false old new ⊎ (gets × HasReadFor true old new)
+pub at_most_one : (kept : OpenLog) (old new : Outside) (gets : Type 0) → gets → (new.trace ≡ old.trace) ⊎ HasReadPiece old new kept → HasReadFor false old new ⊎ (gets × HasReadFor true old new)
 at_most_one kept old new gets is_there is = ⊎_elim (λ none. inl (ap (λ (t : Trace). t.read) none)) (λ one. inr (is_there, one_read kept old new one)) is
 
 -- what isn't told to lack is there

@@ -1,31 +1,20 @@
--- What every log keeps: its state is in range, and its suite is plain.
-use Rattle.std.proofs.Common.{◌≡◌, ◌⊎◌, inl, inr, ⊎_elim, ℕ, ◌+◌, Bool, true, false, cond, List, [], ◌∷◌, Option, Some, None, Ok, Err, Result, refl, sym, ◌∙◌, ap, subst, arith}
-use Rattle.tdb_base.specs.declared.piece.NoRoom.{NoRoom}
-use Rattle.tdb_base.specs.declared.piece.Place.{Place}
-use Rattle.tdb_base.specs.declared.suite.Suite.{Suite}
-use Rattle.tdb_base.specs.declared.suite.Suite.TheVariants.{Plain, Aes128, Aes256}
+-- What every log keeps: its state is in range.
+use Rattle.std.proofs.Common.{◌≡◌, inl, inr, ◌+◌, Bool, true, false, cond, List, [], ◌∷◌, Option, Some, None, sym, ap, subst, arith}
 use Rattle.tdb_mark.specs.declared.commit.Commit.{Commit}
-use Rattle.tdb_model.specs.declared.change.Change.{Change}
 use Rattle.tdb_model.specs.declared.error.CommitError.{CommitError}
 use Rattle.tdb_model.specs.Apply.{History}
 use Rattle.tdb_model.specs.Check.{check}
 use Rattle.tdb_model.specs.InRange.{IsInRange}
 use Rattle.tdb_model.proofs.RangeLemmas.{apply_all_in_range}
-use Rattle.tdb_seg.specs.SegmentSpace.{SegmentSpace, fits, place_in, placed, next_place, then_fit, then_place, with_bytes}
 use Rattle.tdb_overlay.specs.Found.{Finds, Store}
-use Rattle.tdb_overlay.specs.Log.{Adds, IsInUse, IsLogOf, IsStep}
-use Rattle.tdb_overlay.specs.StoreState.{StoreState, commit_fits, commit_lengths, kept_free}
+use Rattle.tdb_overlay.specs.Log.{Adds, IsLogOf}
+use Rattle.tdb_overlay.specs.StoreState.{StoreState}
 use Rattle.tdb_overlay.proofs.LogLaws.{allows}
 
 -- the test of the number passed
 passes_check : (many : Bool) (refusal : CommitError) (rest : Option CommitError) → cond many (Some refusal) rest ≡ None → rest ≡ None
 passes_check true refusal rest is = absurd (cc is)
 passes_check false refusal rest is = is
-
-plain_in_use : (suite : Suite) → IsInUse suite → suite ≡ Plain
-plain_in_use Plain is = refl
-plain_in_use Aes128 is = absurd is
-plain_in_use Aes256 is = absurd is
 
 module _ (finds : Finds) (store : Store) where
   module _ (before : StoreState) (c : Commit) (added : History) (after : StoreState) where
@@ -36,14 +25,6 @@ module _ (finds : Finds) (store : Store) where
         subst IsInRange (sym (ap (λ (s : StoreState). s.chunks) made.after_is))
         (apply_all_in_range (before.count + 1) [] before.chunks commit.0 (omega arith) in_range (passes_check _ _ (check before.chunks commit.0) made.passes))
 
-    step_plain : IsStep finds store before c added after → store.suite ≡ Plain
-    step_plain s = plain_in_use store.suite s.used
-
   pub log_in_range : (before : StoreState) (chain : List Commit) (history : History) (last : StoreState) → IsInRange before.chunks → IsLogOf finds store before chain history last → IsInRange last.chunks
   log_in_range before [] history last in_range is = subst IsInRange (sym (ap (λ (s : StoreState). s.chunks) is.1)) in_range
   log_in_range before (c ∷ chain) history last in_range is = log_in_range is.1 chain is.2 last (step_in_range before c is.0 is.1 in_range is.3.adds) is.4
-
-  -- a store with a text has the suite plain
-  pub log_plain : (before : StoreState) (chain : List Commit) (history : History) (last : StoreState) → IsLogOf finds store before chain history last → (last ≡ before) ⊎ (store.suite ≡ Plain)
-  log_plain before [] history last is = inl is.1
-  log_plain before (c ∷ chain) history last is = inr (step_plain before c is.0 is.1 is.3)

@@ -15,7 +15,7 @@ use Rattle.tdb_run.specs.Opened.{GoesOn, IsOpened}
 use Rattle.tdb_run.specs.Unread.{unread}
 use Rattle.tdb_run.specs.declared.script_lines.ScriptLines.{ScriptLines}
 use Rattle.tdb_run.specs.declared.session.Session as session
-use Rattle.tdb_chunk.specs.declared.store.Store as memory
+use Rattle.tdb_chunk.specs.declared.open_log.OpenLog.{OpenLog}
 use Rattle.tdb_run.specs.declared.status.Success.TheVariants.{Script}
 use Rattle.tdb_run.specs.declared.status.Status.{Status}
 use Rattle.tdb_run.specs.declared.status.Status.TheVariants.{Done}
@@ -23,7 +23,7 @@ use Rattle.tdb_run.proofs.GoingOn.{goes_on_along, goes_on_itself, keeps_along, k
 use Rattle.tdb_run.proofs.SoFar.{Counts}
 use Rattle.tdb_run.proofs.Turning.{Ended, Turned, ended_at_bye, ended_stopped, turned_none, turned_on, whole_along}
 
-pub record Serves {D : Type 0} (outside : D → Outside) (crash_states : D → CrashStates) (store : Store) (came now : SourceContent) (before after : SinkContent) (old : D) (first_kept : memory.Store) (first_made : session.Session) (turn : Turn D) : Type 0 where
+pub record Serves {D : Type 0} (outside : D → Outside) (crash_states : D → CrashStates) (store : Store) (came now : SourceContent) (before after : SinkContent) (old : D) (first_kept : OpenLog) (first_made : session.Session) (turn : Turn D) : Type 0 where
   pub turned : Turned outside crash_states store came now before after old first_kept first_made turn
   pub opened : IsOpened outside crash_states turn.platform turn.store
   pub same_store : store_of turn.store ≡ store
@@ -33,7 +33,7 @@ pub record Serves {D : Type 0} (outside : D → Outside) (crash_states : D → C
 
 module _ {D : Type 0} (outside : D → Outside) (crash_states : D → CrashStates) (counts : Counts outside crash_states) (numbered : (p : D) → IsTrue (outside p).tells → IsNumbered (outside p).trace) where
   -- before the first line
-  pub serves_none : (came : SourceContent) (before : SinkContent) (p : D) (kept : memory.Store) (made : session.Session) (lines : ScriptLines) → unread lines ≡ [] → lines.taken ≡ 0 → IsOpened outside crash_states p kept
+  pub serves_none : (came : SourceContent) (before : SinkContent) (p : D) (kept : OpenLog) (made : session.Session) (lines : ScriptLines) → unread lines ≡ [] → lines.taken ≡ 0 → IsOpened outside crash_states p kept
       → Serves outside crash_states (store_of kept) came came before before p kept made (record { lines = lines; platform = p; store = kept; session = made })
   serves_none came before p kept made lines none zero opened = record {
     turned = turned_none outside crash_states counts numbered (store_of kept) came before p kept made lines none zero opened.settled;
@@ -44,7 +44,7 @@ module _ {D : Type 0} (outside : D → Outside) (crash_states : D → CrashState
     keeps = keeps_itself came before (outside p);
   }
 
-  module _ (store : Store) (came now later : SourceContent) (before after last : SinkContent) (old : D) (first_kept : memory.Store) (first_made : session.Session) (turn turn' : Turn D)
+  module _ (store : Store) (came now later : SourceContent) (before after last : SinkContent) (old : D) (first_kept : OpenLog) (first_made : session.Session) (turn turn' : Turn D)
       (s : Serves outside crash_states store came now before after old first_kept first_made turn) (goes : GoesOn (store_of turn.store) (outside turn.platform) (outside turn'.platform))
       (whole : StaysWhole outside turn.platform turn'.platform (store_of turn.store) turn.store turn.session) (keeps : Keeps now later after last (outside turn.platform) (outside turn'.platform)) where
     goes_then : GoesOn store (outside turn.platform) (outside turn'.platform)

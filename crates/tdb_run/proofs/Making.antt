@@ -12,7 +12,7 @@ use Rattle.tdb_platform.specs.CrashStates.{CrashStates, now}
 use Rattle.tdb_platform.proofs.Moments.{goes_on_by, started}
 use Rattle.tdb_chunk.specs.Formatting.{Formatted}
 use Rattle.tdb_chunk.specs.Known.{Knows}
-use Rattle.tdb_chunk.specs.declared.store.Store as memory
+use Rattle.tdb_chunk.specs.declared.open_log.OpenLog.{OpenLog}
 use Rattle.tdb_overlay.specs.Found.{Store}
 use Rattle.tdb_overlay.specs.Growth.{Added, HasGrownBy, IsSettled, OrNothing, UnlessErr}
 use Rattle.tdb_overlay.specs.Intact.{StaysIntact}
@@ -57,7 +57,7 @@ module _ {D : Type 0} (outside : D → Outside) (crash_states : D → CrashState
     }
 
     module _ (new : D) (grows : Extends (outside mid).trace (outside new).trace) where
-      pub made_new : (kept : memory.Store) → (outside mid).trace.read ≡ (outside old).trace.read → IsCommitted outside crash_states store mid new history (formatted_state store segments) (opening_changes Plain) kept → HasMade outside crash_states store (IsNewStore store segments) old new history from kept
+      pub made_new : (kept : OpenLog) → (outside mid).trace.read ≡ (outside old).trace.read → IsCommitted outside crash_states store mid new history (formatted_state store segments) (opening_changes Plain) kept → HasMade outside crash_states store (IsNewStore store segments) old new history from kept
       made_new kept unread c = record {
         begun = commit_after (formatted_state store segments) (opening_changes Plain);
         opened = c.to;
@@ -92,7 +92,7 @@ module _ {D : Type 0} (outside : D → Outside) (crash_states : D → CrashState
       (λ err. absurd (false≢true err.0)) g.2
 
   -- What the log needs stands after both calls.
-  pub made_whole : (numbered : (p : D) → IsTrue (outside p).tells → IsNumbered (outside p).trace) (segments : ℕ) (old mid new : D) (x : memory.Store) {E : Type 0} → (outside mid).tells ≡ (outside old).tells
+  pub made_whole : (numbered : (p : D) → IsTrue (outside p).tells → IsNumbered (outside p).trace) (segments : ℕ) (old mid new : D) (x : OpenLog) {E : Type 0} → (outside mid).tells ≡ (outside old).tells
       → (IsTrue (outside old).tells → Added {E = E} outside crash_states store old mid (Formatted store segments) (Ok x)) → (IsTrue (outside mid).tells → Extends (outside mid).trace (outside new).trace) → Knows (outside mid) x (formatted_state store segments)
       → StaysIntact store (outside old) (outside mid) → ScriptWhole outside mid new store x → StaysIntact store (outside old) (outside new)
   made_whole numbered segments old mid new x same added grows knows formatted whole told sound history from is intact =
@@ -103,7 +103,7 @@ module _ {D : Type 0} (outside : D → Outside) (crash_states : D → CrashState
   module _ (old new : D) (history : History) (from : StoreState) where
     -- a store that had no partitions
     module _ (none : HasNone from.chunks) where
-      pub made_reopened : (kept : memory.Store) → IsCommitted outside crash_states store old new history from (opening_changes Plain) kept → HasMade outside crash_states store (IsReopened store) old new history from kept
+      pub made_reopened : (kept : OpenLog) → IsCommitted outside crash_states store old new history from (opening_changes Plain) kept → HasMade outside crash_states store (IsReopened store) old new history from kept
       made_reopened kept c = record {
         begun = commit_after from (opening_changes Plain);
         opened = c.to;
@@ -133,7 +133,7 @@ module _ {D : Type 0} (outside : D → Outside) (crash_states : D → CrashState
     same_part : (i : List ℕ) (a : Anchor) → now outside crash_states p i a → HasPartOf (outside p).trace.written store history [] a
     same_part i a left = ([], [], from, refl, same_log a (settled told i a left))
 
-    pub made_as_is : (kept : memory.Store) → HasBoth from.chunks → Knows (outside p) kept from → HasMade outside crash_states store (IsReopened store) p p history from kept
+    pub made_as_is : (kept : OpenLog) → HasBoth from.chunks → Knows (outside p) kept from → HasMade outside crash_states store (IsReopened store) p p history from kept
     made_as_is kept both at = record {
       begun = [];
       opened = from;

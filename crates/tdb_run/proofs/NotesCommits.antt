@@ -12,7 +12,7 @@ use Rattle.tdb_overlay.specs.StoreState.{StoreState}
 use Rattle.tdb_script.specs.declared.reply.Reply.{Reply}
 use Rattle.tdb_chunk.specs.Committing.{HasGrownFrom, IsCommitCall, is_refusal}
 use Rattle.tdb_chunk.specs.Known.{Knows, store_of}
-use Rattle.tdb_chunk.specs.declared.store.Store as memory
+use Rattle.tdb_chunk.specs.declared.open_log.OpenLog.{OpenLog}
 use Rattle.tdb_run.specs.LineResult.{HasAllOf, HasPartOf}
 use Rattle.tdb_run.specs.NotesCommit.{IsCommitted, IsRefused, MayBeCommitted, commit_after}
 use Rattle.tdb_run.specs.Script.{refusal_reply}
@@ -32,7 +32,7 @@ no_fault e refusal same =
     let no : IsTrue false = subst (λ (f : CommitError). IsTrue (is_refusal f)) same refusal in
     absurd (cc no)
 
-module _ {D : Type 0} (outside : D → Outside) (crash_states : D → CrashStates) (changes : List Change) (was now_is : memory.Store) (old new : D) {T : Type 0} (e : CommitError) (reply : Reply)
+module _ {D : Type 0} (outside : D → Outside) (crash_states : D → CrashStates) (changes : List Change) (was now_is : OpenLog) (old new : D) {T : Type 0} (e : CommitError) (reply : Reply)
     (is : IsTrue (is_refusal e) × (reply ≡ refusal_reply e)) (call : IsCommitCall {T = T} outside crash_states changes was now_is old new (Err e)) where
   pub platform_stays : new ≡ old
   platform_stays = call.platform_stays (no_fault e is.0)
@@ -43,7 +43,7 @@ module _ {D : Type 0} (outside : D → Outside) (crash_states : D → CrashState
   pub refused_by : OverLog outside old new (store_of was) was (λ history from. IsRefused (store_of was) from changes reply)
   refused_by told sound history from log knows = record { refusal = e; refused = call.refused from knows is.0; told = is.1 }
 
-module _ {D : Type 0} (outside : D → Outside) (crash_states : D → CrashStates) (changes : List Change) (was now_is : memory.Store) (old new : D) (told : IsTrue (outside old).tells)
+module _ {D : Type 0} (outside : D → Outside) (crash_states : D → CrashStates) (changes : List Change) (was now_is : OpenLog) (old new : D) (told : IsTrue (outside old).tells)
     (sound : IsSound (store_of was) (outside new)) (history : History) (from : StoreState) (log : IsLog (outside old).trace.written (store_of was) (outside old).anchor history from)
     (knows : Knows (outside old) was from) where
   -- the log of an anchor that a stop leaves

@@ -8,7 +8,7 @@ use Rattle.tdb_mark.proofs.UnforgedLemmas.{IsUnforged-before}
 use Rattle.tdb_platform.specs.Outside.{Outside}
 use Rattle.tdb_platform.specs.CrashStates.{CrashStates}
 use Rattle.tdb_chunk.specs.Known.{store_of}
-use Rattle.tdb_chunk.specs.declared.store.Store as memory
+use Rattle.tdb_chunk.specs.declared.open_log.OpenLog.{OpenLog}
 use Rattle.tdb_overlay.specs.Found.{Store}
 use Rattle.tdb_overlay.specs.Intact.{StaysIntact}
 use Rattle.tdb_overlay.specs.SealedOnly.{OnlySealed}
@@ -28,11 +28,11 @@ use Rattle.tdb_run.proofs.RunRan.{Counts, ran_script}
 use Rattle.tdb_run.proofs.Whole.{only_sealed_along, only_sealed_itself}
 
 -- the store is open, and is this one
-abbrev pub Begins : {D : Type 0} → (D → Outside) → (D → CrashStates) → Store → Opens → D → D → memory.Store → Type 0
+abbrev pub Begins : {D : Type 0} → (D → Outside) → (D → CrashStates) → Store → Opens → D → D → OpenLog → Type 0
 Begins outside crash_states store opens old mid kept = OverStart outside old mid store (λ history from. (store_of kept ≡ store) × HasBegun outside crash_states store opens old mid history from kept)
 
 module _ {D : Type 0} (outside : D → Outside) (crash_states : D → CrashStates) (counts : Counts outside crash_states) (numbered : (p : D) → IsTrue (outside p).tells → IsNumbered (outside p).trace)
-    (store first then : Store) (opens : Opens) (old mid new : D) (kept : memory.Store) (status : Status)
+    (store first then : Store) (opens : Opens) (old mid new : D) (kept : OpenLog) (status : Status)
     (one : GoesOn first (outside old) (outside mid)) (two : GoesOn then (outside mid) (outside new)) (begun : Begins outside crash_states store opens old mid kept) where
   module _ (told : IsTrue (outside old).tells) where
     on : IsTrue (outside mid).tells

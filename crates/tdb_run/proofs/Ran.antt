@@ -17,7 +17,7 @@ use Rattle.tdb_run.specs.Script.{ScriptState}
 use Rattle.tdb_run.specs.Served.{NoneAtDone, ScriptRan}
 use Rattle.tdb_run.specs.Session.{added_by}
 use Rattle.tdb_run.specs.declared.session.Session as session
-use Rattle.tdb_chunk.specs.declared.store.Store as memory
+use Rattle.tdb_chunk.specs.declared.open_log.OpenLog.{OpenLog}
 use Rattle.tdb_run.specs.declared.status.Status.{Status}
 use Rattle.tdb_run.specs.declared.status.Status.TheVariants.{Done, Usage, AnchorCount, Damaged, PlatformFault, SourceFault, SinkFault, Memory, End, Refused}
 use Rattle.tdb_run.proofs.LineLogs.{all_behind}
@@ -38,7 +38,7 @@ none_at_any End = tt
 none_at_any (Refused refusal) = tt
 
 module _ {D : Type 0} (outside : D → Outside) (crash_states : D → CrashStates) (counts : Counts outside crash_states) (store : Store) (came gone : SourceContent) (c : Conversation came gone)
-    (old mid : D) (history : History) (first : ScriptState) (kept : memory.Store) (made : session.Session) (s : SoFar outside crash_states store old mid history first c.lines c.replies kept made) where
+    (old mid : D) (history : History) (first : ScriptState) (kept : OpenLog) (made : session.Session) (s : SoFar outside crash_states store old mid history first c.lines c.replies kept made) where
   -- no line is left, or none was read
   pub ran_left : (status : Status) → c.next ≡ None → IsTrue (outside mid).tells → IsSettled outside crash_states mid → ScriptRan outside crash_states store c old mid history first status
   ran_left status none told settled =
@@ -81,7 +81,7 @@ module _ {D : Type 0} (outside : D → Outside) (crash_states : D → CrashState
         }
 
     -- the next line was answered, and its reply not put whole
-    pub ran_cut : (reply : Reply) (kept' : memory.Store) (made' : session.Session) → c.next ≡ Some reply → IsTrue (outside new).tells → IsSettled outside crash_states new
+    pub ran_cut : (reply : Reply) (kept' : OpenLog) (made' : session.Session) → c.next ≡ Some reply → IsTrue (outside new).tells → IsSettled outside crash_states new
         → LineAnswered outside crash_states store mid new (history ++ added_by s.answers) s.last line reply kept' made' → ScriptRan outside crash_states store c old new history first status
     ran_cut reply kept' made' cut told settled a =
         let whole : HasAllOf (outside new).trace.written store history (added_by s.answers) a.given.added (outside new).anchor =

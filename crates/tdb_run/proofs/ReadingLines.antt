@@ -26,7 +26,7 @@ use Rattle.tdb_run.specs.SessionState.{IsPureAnswer}
 use Rattle.tdb_run.specs.declared.session.Session as session
 use Rattle.tdb_run.specs.declared.status.Status.{Status}
 use Rattle.tdb_run.specs.declared.status.Status.TheVariants.{Done, Usage, AnchorCount, Damaged, PlatformFault, SourceFault, SinkFault, Memory, End, Refused}
-use Rattle.tdb_chunk.specs.declared.store.Store as chunk
+use Rattle.tdb_chunk.specs.declared.open_log.OpenLog.{OpenLog}
 
 -- what was written is the same
 sealed_none : (secret : List ℕ) (old new : Outside) → (IsTrue old.tells → new.trace.written ≡ old.trace.written) → OnlySealed secret old new
@@ -59,7 +59,7 @@ ends_weaker P Q End old new weaker is = is
 ends_weaker P Q (Refused refusal) old new weaker is = is
 
 -- A store knows a state as long as the trace of writes and the anchor stay.
-pub knows_still : (o n : Outside) (kept : chunk.Store) (last : StoreState) → n.trace.written ≡ o.trace.written → n.anchor ≡ o.anchor → Knows o kept last → Knows n kept last
+pub knows_still : (o n : Outside) (kept : OpenLog) (last : StoreState) → n.trace.written ≡ o.trace.written → n.anchor ≡ o.anchor → Knows o kept last → Knows n kept last
 knows_still o n kept last written anchor at =
     subst (λ (a : Anchor). IsStoreAt (needed n.trace.written (store_of kept) a) kept last) (sym anchor)
     (subst (λ (ws : List WrittenPiece). IsStoreAt (needed ws (store_of kept) o.anchor) kept last) (sym written) at)
@@ -75,7 +75,7 @@ module _ {D : Type 0} (outside : D → Outside) (crash_states : D → CrashState
     sealed = sealed_none store.secret (outside old) (outside new) reads.written;
   }
 
-  pub reads_opened : (old new : D) (kept : chunk.Store) → OnlyReads outside crash_states old new → IsOpened outside crash_states old kept → IsOpened outside crash_states new kept
+  pub reads_opened : (old new : D) (kept : OpenLog) → OnlyReads outside crash_states old new → IsOpened outside crash_states old kept → IsOpened outside crash_states new kept
   reads_opened old new kept reads opened = record {
     at_head = λ t. let told : IsTrue (outside old).tells = subst IsTrue reads.tells t in reads.anchor told ∙ opened.at_head told;
     settled = reads_settled outside crash_states counts old new reads opened.settled;
@@ -89,7 +89,7 @@ module _ {D : Type 0} (outside : D → Outside) (crash_states : D → CrashState
       subst (λ (a : Anchor). P (outside new).trace.written a) (sym (reads.anchor told))
       (subst (λ (ws : List WrittenPiece). P ws (outside old).anchor) (sym (reads.written told)) is)
 
-  pub reads_whole : (store : Store) (old new : D) (kept : chunk.Store) (made : session.Session) → OnlyReads outside crash_states old new → StaysWhole outside old new store kept made
+  pub reads_whole : (store : Store) (old new : D) (kept : OpenLog) (made : session.Session) → OnlyReads outside crash_states old new → StaysWhole outside old new store kept made
   reads_whole store old new kept made reads told sound history state log at intact = along (λ ws a. IsIntact ws store a) old new told reads intact
 
   module _ (store : Store) (old new : D) (reads : OnlyReads outside crash_states old new) (told : IsTrue (outside old).tells) (settled : IsSettled outside crash_states old)
@@ -111,7 +111,7 @@ module _ {D : Type 0} (outside : D → Outside) (crash_states : D → CrashState
     }
 
     -- an answer that commits nothing
-    pub answered_reading : (state : ScriptState) (is_answer : Answer → Type 0) (given : Answer) (reply : Reply) (kept : chunk.Store) (made : session.Session) → last ≡ state.store
+    pub answered_reading : (state : ScriptState) (is_answer : Answer → Type 0) (given : Answer) (reply : Reply) (kept : OpenLog) (made : session.Session) → last ≡ state.store
         → is_answer given → IsPureAnswer state made reply given → Knows (outside old) kept state.store
         → AnsweredBy outside crash_states store old new history is_answer reply kept made
     answered_reading state is_answer given reply kept made same answers pure at = record {
@@ -152,7 +152,7 @@ module _ {D : Type 0} (outside : D → Outside) (crash_states : D → CrashState
     }
 
   -- from the same as given, in any of the states
-  pub pure_line : (store : Store) (old new : D) (kept : chunk.Store) (made next : session.Session) (is_answer : ScriptState → Answer → Type 0) (reply : Reply)
+  pub pure_line : (store : Store) (old new : D) (kept : OpenLog) (made next : session.Session) (is_answer : ScriptState → Answer → Type 0) (reply : Reply)
       → OnlyReads outside crash_states old new → IsSettled outside crash_states old
       → Premised outside old new store kept made (λ history state. (given : Answer) × is_answer state given × IsPureAnswer state next reply given)
       → Premised outside old new store kept made (λ history state. AnsweredBy outside crash_states store old new history (is_answer state) reply kept next)
@@ -160,7 +160,7 @@ module _ {D : Type 0} (outside : D → Outside) (crash_states : D → CrashState
       let given = pure told sound history state log at in
       answered_reading store old new reads told settled history state.store log state (is_answer state) given.0 reply kept next refl given.1 given.2 at.store
 
-  pub stopped_pure : (store : Store) (old new : D) (kept : chunk.Store) (made : session.Session) (is_answer : ScriptState → Answer → Type 0) (gets : ScriptState → Type 0) (status : Status)
+  pub stopped_pure : (store : Store) (old new : D) (kept : OpenLog) (made : session.Session) (is_answer : ScriptState → Answer → Type 0) (gets : ScriptState → Type 0) (status : Status)
       → OnlyReads outside crash_states old new → IsSettled outside crash_states old → Premised outside old new store kept made (λ history state. ReadsAtEnd (gets state) status (outside old) (outside new))
       → Premised outside old new store kept made (λ history state. StoppedBy outside crash_states store old new history (is_answer state) (gets state) status)
   stopped_pure store old new kept made is_answer gets status reads settled ends told sound history state log at =
@@ -173,22 +173,22 @@ module _ {D : Type 0} (outside : D → Outside) (crash_states : D → CrashState
   pub still_goes_on : (store : Store) (p : D) → GoesOn store (outside p) (outside p)
   still_goes_on store p = reads_go_on store p p (reads_nothing outside crash_states counts p)
 
-  pub still_line : (store : Store) (old new : D) (kept kept' : chunk.Store) (made next : session.Session) (is_answer : ScriptState → Answer → Type 0) (reply : Reply)
+  pub still_line : (store : Store) (old new : D) (kept kept' : OpenLog) (made next : session.Session) (is_answer : ScriptState → Answer → Type 0) (reply : Reply)
       → new ≡ old → kept' ≡ kept → IsSettled outside crash_states old
       → Premised outside old new store kept made (λ history state. (given : Answer) × is_answer state given × IsPureAnswer state next reply given)
       → Premised outside old new store kept made (λ history state. AnsweredBy outside crash_states store old new history (is_answer state) reply kept' next)
   still_line store old new kept kept' made next is_answer reply same same_store settled pure told sound history state log at =
-      subst (λ (k : chunk.Store). AnsweredBy outside crash_states store old new history (is_answer state) reply k next) (sym same_store)
+      subst (λ (k : OpenLog). AnsweredBy outside crash_states store old new history (is_answer state) reply k next) (sym same_store)
       (pure_line store old new kept made next is_answer reply (reads_same old new same) settled pure told sound history state log at)
 
-  pub still_stopped : (store : Store) (p : D) (kept : chunk.Store) (made : session.Session) (is_answer : ScriptState → Answer → Type 0) (gets : ScriptState → Type 0) (status : Status) → IsSettled outside crash_states p
+  pub still_stopped : (store : Store) (p : D) (kept : OpenLog) (made : session.Session) (is_answer : ScriptState → Answer → Type 0) (gets : ScriptState → Type 0) (status : Status) → IsSettled outside crash_states p
       → Premised outside p p store kept made (λ history state. StoppedBy outside crash_states store p p history (is_answer state) (gets state) status)
   still_stopped store p kept made is_answer gets status settled =
       stopped_pure store p p kept made is_answer gets status (reads_nothing outside crash_states counts p) settled (λ told sound history state log at. none_at_end (gets state) status (outside p) (outside p) refl)
 
-  pub still_whole : (store : Store) (old new : D) (kept : chunk.Store) → new ≡ old → ScriptWhole outside old new store kept
+  pub still_whole : (store : Store) (old new : D) (kept : OpenLog) → new ≡ old → ScriptWhole outside old new store kept
   still_whole store old new kept same told sound history from log at intact = along (λ ws a. IsIntact ws store a) old new told (reads_same old new same) intact
 
-  pub still_opened : (old new : D) (kept kept' : chunk.Store) → new ≡ old → kept' ≡ kept → IsOpened outside crash_states old kept → IsOpened outside crash_states new kept'
+  pub still_opened : (old new : D) (kept kept' : OpenLog) → new ≡ old → kept' ≡ kept → IsOpened outside crash_states old kept → IsOpened outside crash_states new kept'
   still_opened old new kept kept' same same_store opened =
-      subst (λ (k : chunk.Store). IsOpened outside crash_states new k) (sym same_store) (subst (λ (p : D). IsOpened outside crash_states p kept) (sym same) opened)
+      subst (λ (k : OpenLog). IsOpened outside crash_states new k) (sym same_store) (subst (λ (p : D). IsOpened outside crash_states p kept) (sym same) opened)

@@ -1,9 +1,8 @@
 -- A store whose log was read and recovered, and then its partitions.
-use Rattle.std.proofs.Common.{◌≡◌, ⊎_elim, ℕ, List, IsTrue, refl, sym, ◌∙◌, ap, subst, arith}
+use Rattle.std.proofs.Common.{◌≡◌, ℕ, List, IsTrue, refl, sym, ◌∙◌, ap, subst}
 use Rattle.tdb_base.specs.declared.piece.Damage.{Damage}
 use Rattle.tdb_base.specs.declared.piece.Place.{Place}
 use Rattle.tdb_base.specs.declared.suite.Suite.{Suite}
-use Rattle.tdb_base.specs.declared.suite.Suite.TheVariants.{Plain}
 use Rattle.tdb_base.specs.Trace.{Extends, IsNumbered}
 use Rattle.tdb_mark.specs.CommitText.{commit_key_of, commit_of}
 use Rattle.tdb_mark.proofs.UnforgedLemmas.{IsUnforged-before}
@@ -11,15 +10,15 @@ use Rattle.tdb_model.specs.Apply.{History}
 use Rattle.tdb_platform.specs.Outside.{Outside}
 use Rattle.tdb_platform.specs.CrashStates.{CrashStates}
 use Rattle.tdb_chunk.specs.Known.{Knows, store_of}
-use Rattle.tdb_chunk.specs.declared.store.Store as memory
-use Rattle.tdb_overlay.specs.Found.{Store, in_trace}
+use Rattle.tdb_chunk.specs.declared.open_log.OpenLog.{OpenLog}
+use Rattle.tdb_overlay.specs.Found.{Store}
 use Rattle.tdb_overlay.specs.Growth.{IsSettled}
 use Rattle.tdb_overlay.specs.Needed.{needed}
 use Rattle.tdb_overlay.specs.Log.{IsLog}
 use Rattle.tdb_overlay.specs.Reading.{OnlyReads}
 use Rattle.tdb_overlay.specs.Recovered.{IsRecovered}
 use Rattle.tdb_overlay.specs.Required.{IsOpeningPiece}
-use Rattle.tdb_overlay.specs.StoreState.{StoreState, first_state}
+use Rattle.tdb_overlay.specs.StoreState.{StoreState}
 use Rattle.tdb_recover.specs.Damaged.{IsDamageOf}
 use Rattle.tdb_recover.specs.Premises.{Premises}
 use Rattle.tdb_recover.specs.declared.error.OpenError.{OpenError}
@@ -33,18 +32,13 @@ use Rattle.tdb_run.specs.declared.status.Status.{Status}
 use Rattle.tdb_run.specs.declared.status.Status.TheVariants.{Done, Usage, AnchorCount, Damaged, PlatformFault, SourceFault, SinkFault, Memory, End, Refused}
 use Rattle.tdb_run.proofs.ReadingLines.{knows_still}
 use Rattle.tdb_run.proofs.RunBeginning.{log_read, not_begun_read, not_begun_settled, reads_on}
-use Rattle.tdb_run.proofs.LogRanges.{log_plain}
 use Rattle.tdb_run.proofs.RunRan.{Counts}
 
 -- A store that stands for the last state of a log is that of the log.
-opened_store : (kept : memory.Store) (store : Store) (o : Outside) (history : History) (from : StoreState) → kept.keys ≡ store.secret → IsRecovered (needed o.trace.written store o.anchor) store kept.log from → IsLog o.trace.written store o.anchor history from
-    → store_of kept ≡ store
-opened_store kept store o history from keys recovered is =
-    let suite : store.suite ≡ Plain = ⊎_elim
-    (λ none. let zero : from.count ≡ 0 = ap (λ (s : StoreState). s.count) none in absurd (omega (arith, zero, recovered.count, kept.counts.some, kept.counts.base)))
-    (λ plain. plain) (log_plain (in_trace o.trace.written) store first_state is.chain history from is.tells) in
-    ap (λ (k : List ℕ). let t : Store = record { secret = k; suite = Plain } in t) keys
-    ∙ ap (λ (s : Suite). let t : Store = record { secret = store.secret; suite = s } in t) (sym suite)
+opened_store : (kept : OpenLog) (store : Store) (o : Outside) (from : StoreState) → kept.keys ≡ store.secret → IsRecovered (needed o.trace.written store o.anchor) store kept.log from → store_of kept ≡ store
+opened_store kept store o from keys recovered =
+    ap (λ (k : List ℕ). let t : Store = record { secret = k; suite = kept.log.suite } in t) keys
+    ∙ ap (λ (s : Suite). let t : Store = record { secret = store.secret; suite = s } in t) recovered.suite
 
 -- what is taken for granted where the log is read, by what is so later
 pub premises_then : {D : Type 0} (outside : D → Outside) (crash_states : D → CrashStates) (counts : Counts outside crash_states) (numbered : (p : D) → IsTrue (outside p).tells → IsNumbered (outside p).trace)
@@ -56,14 +50,14 @@ premises_then outside crash_states counts numbered secret old mid new reads grow
     record { tells = told; keys = same_secret; unforged = IsUnforged-before (outside mid).trace (outside new).trace (commit_of (commit_key_of store.secret)) (numbered mid on) (grows on) sound; log = is }
 
 module _ {D : Type 0} (outside : D → Outside) (crash_states : D → CrashStates) (counts : Counts outside crash_states) (numbered : (p : D) → IsTrue (outside p).tells → IsNumbered (outside p).trace)
-    (secret : List ℕ) (old mid new : D) (reads : OnlyReads outside crash_states old mid) (kept : memory.Store) (goes : GoesOn (store_of kept) (outside mid) (outside new)) (keys : kept.keys ≡ secret)
+    (secret : List ℕ) (old mid new : D) (reads : OnlyReads outside crash_states old mid) (kept : OpenLog) (goes : GoesOn (store_of kept) (outside mid) (outside new)) (keys : kept.keys ≡ secret)
     (recovered : (store : Store) (history : History) (last : StoreState) → Premises (outside old) (outside mid) secret store history last → IsRecovered (needed (outside old).trace.written store (outside old).anchor) store kept.log last)
     (store : Store) (same_secret : store.secret ≡ secret) where
   known : IsTrue (outside old).tells → IsSound store (outside new) → (history : History) (from : StoreState) → IsLog (outside old).trace.written store (outside old).anchor history from
       → (store_of kept ≡ store) × Knows (outside mid) kept from
   known told sound history from is =
       let r = recovered store history from (premises_then outside crash_states counts numbered secret old mid new reads goes.grows store same_secret told sound history from is) in
-      let same = opened_store kept store (outside old) history from (keys ∙ sym same_secret) r is in (
+      let same = opened_store kept store (outside old) from (keys ∙ sym same_secret) r in (
         same,
         knows_still (outside old) (outside mid) kept from (reads.written told) (reads.anchor told)
             (subst (λ (s : Store). IsRecovered (needed (outside old).trace.written s (outside old).anchor) s kept.log from) (sym same) r),

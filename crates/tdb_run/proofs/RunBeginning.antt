@@ -6,7 +6,7 @@ use Rattle.tdb_model.specs.Apply.{History}
 use Rattle.tdb_platform.specs.Outside.{Anchor, Outside, Told}
 use Rattle.tdb_platform.specs.CrashStates.{CrashStates, Elapses, LeavesNoMore, now}
 use Rattle.tdb_platform.proofs.Moments.{goes_on, settles, started}
-use Rattle.tdb_chunk.specs.declared.store.Store as memory
+use Rattle.tdb_chunk.specs.declared.open_log.OpenLog.{OpenLog}
 use Rattle.tdb_overlay.specs.Found.{Store}
 use Rattle.tdb_overlay.specs.Growth.{IsSettled}
 use Rattle.tdb_overlay.specs.Intact.{IsIntact, StaysIntact}
@@ -89,7 +89,7 @@ module _ {D : Type 0} (outside : D → Outside) (crash_states : D → CrashState
       }
 
       module _ (new : D) where
-        pub begun_after : (history : History) (from : StoreState) (kept : memory.Store) → ReadsOnly (IsOpeningPiece (outside old).trace.written store (outside old).anchor) (outside old) (outside mid)
+        pub begun_after : (history : History) (from : StoreState) (kept : OpenLog) → ReadsOnly (IsOpeningPiece (outside old).trace.written store (outside old).anchor) (outside old) (outside mid)
             → HasMade outside crash_states store opens mid new history from kept → HasBegun outside crash_states store opens old new history from kept
         begun_after history from kept only made = record {
           begun = made.begun;
@@ -111,7 +111,7 @@ module _ {D : Type 0} (outside : D → Outside) (crash_states : D → CrashState
           stops = inr (record { left = made.left; any_moment = settles outside crash_states counts old mid new _ reads.left made.any_moment });
         }
 
-        pub begun_over : (kept : memory.Store) → (IsTrue (outside old).tells → (outside mid).trace ≡ (outside old).trace) → OverStart outside mid new store (λ history from. HasMade outside crash_states store opens mid new history from kept)
+        pub begun_over : (kept : OpenLog) → (IsTrue (outside old).tells → (outside mid).trace ≡ (outside old).trace) → OverStart outside mid new store (λ history from. HasMade outside crash_states store opens mid new history from kept)
             → OverStart outside old new store (λ history from. HasBegun outside crash_states store opens old new history from kept)
         begun_over kept same made told sound history from is =
             begun_after history from kept (only_none (outside old) (outside mid) (IsOpeningPiece (outside old).trace.written store (outside old).anchor) (ap (λ (t : Trace). t.read) (same told))) (made (reads_on told) sound history from (log_read store history from told is))

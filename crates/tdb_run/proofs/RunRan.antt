@@ -9,7 +9,7 @@ use Rattle.tdb_overlay.specs.Growth.{IsSettled}
 use Rattle.tdb_overlay.specs.Log.{IsLog}
 use Rattle.tdb_overlay.specs.StoreState.{StoreState}
 use Rattle.tdb_overlay.proofs.LogLaws.{log_stays}
-use Rattle.tdb_chunk.specs.declared.store.Store as memory
+use Rattle.tdb_chunk.specs.declared.open_log.OpenLog.{OpenLog}
 use Rattle.tdb_stream.specs.SourceContent.{SourceContent}
 use Rattle.tdb_run.specs.Begin.{HasBegun, HasNotBegun, HasUserPartitions, IsEarlyStop, IsExplainedStop, Opens}
 use Rattle.tdb_run.specs.LineResult.{HasAllOf, HasPartOf}
@@ -111,7 +111,7 @@ module _ {D : Type 0} (outside : D → Outside) (crash_states : D → CrashState
     kept new added part rest are has a to = partitions_kept (outside old).trace.written (outside new).trace.written store (outside old).anchor a history added part rest from to is are has
 
     -- a store that is open, and a script over it
-    pub ran_script : (mid new : D) (at : memory.Store) (status : Status) → Extends (outside old).trace (outside mid).trace → Extends (outside mid).trace (outside new).trace → IsScriptStatus status
+    pub ran_script : (mid new : D) (at : OpenLog) (status : Status) → Extends (outside old).trace (outside mid).trace → Extends (outside mid).trace (outside new).trace → IsScriptStatus status
         → (b : HasBegun outside crash_states store opens old mid history from at) → ScriptRan outside crash_states store c mid new (history ++ b.begun) (script_at b.opened) status
         → RunRan outside crash_states store c opens old new history from status
     ran_script mid new at status starts grows ends b r =
@@ -179,7 +179,7 @@ module _ {D : Type 0} (outside : D → Outside) (crash_states : D → CrashState
       }
 
       -- a new store, and no script
-      pub ran_format : (new : D) (at : memory.Store) (segments : ℕ) → IsTrue (outside new).tells → IsSettled outside crash_states new → HasBegun outside crash_states store opens old new history from at
+      pub ran_format : (new : D) (at : OpenLog) (segments : ℕ) → IsTrue (outside new).tells → IsSettled outside crash_states new → HasBegun outside crash_states store opens old new history from at
           → RunRan outside crash_states store c opens old new history from (Done (Formatted segments))
       ran_format new at segments told settled b =
           let written : List WrittenPiece = (outside new).trace.written in

@@ -15,7 +15,7 @@ use Rattle.tdb_run.specs.Script.{Answer, ScriptState}
 use Rattle.tdb_run.specs.Session.{AnswersBetween, Session, added_by}
 use Rattle.tdb_run.specs.SessionState.{IsScriptAt}
 use Rattle.tdb_run.specs.declared.session.Session as session
-use Rattle.tdb_chunk.specs.declared.store.Store as memory
+use Rattle.tdb_chunk.specs.declared.open_log.OpenLog.{OpenLog}
 use Rattle.tdb_run.proofs.LineLogs.{added_more, no_part, part_behind, part_stays}
 
 -- what a stop since an earlier moment may leave, is what one since a later moment may leave too
@@ -51,7 +51,7 @@ session_more store begun mid new history first (l ∷ lines) (g ∷ answers) las
 session_more store begun mid new history first [] (g ∷ answers) last line given so_far grows answered log = absurd so_far
 session_more store begun mid new history first (l ∷ lines) [] last line given so_far grows answered log = absurd so_far
 
-pub record SoFar {D : Type 0} (outside : D → Outside) (crash_states : D → CrashStates) (store : Store) (old mid : D) (history : History) (first : ScriptState) (lines : List (List ℕ)) (replies : List Reply) (kept : memory.Store) (made : session.Session) : Type 0 where
+pub record SoFar {D : Type 0} (outside : D → Outside) (crash_states : D → CrashStates) (store : Store) (old mid : D) (history : History) (first : ScriptState) (lines : List (List ℕ)) (replies : List Reply) (kept : OpenLog) (made : session.Session) : Type 0 where
   pub answers : List Answer
   pub last : ScriptState
   pub session : Session store (outside old) history first lines answers (outside mid) last
@@ -70,7 +70,7 @@ module _ {D : Type 0} (outside : D → Outside) (crash_states : D → CrashState
       subst (λ (b : Anchor). HasPartOf (outside p).trace.written store history added b) (sym (settled told i a left)) (no_part store (outside p).anchor (outside p).trace.written history added last.store log))
 
   -- before the first line
-  pub so_far_none : (p : D) (history : History) (first : ScriptState) (kept : memory.Store) (made : session.Session) → IsTrue (outside p).tells → IsSettled outside crash_states p
+  pub so_far_none : (p : D) (history : History) (first : ScriptState) (kept : OpenLog) (made : session.Session) → IsTrue (outside p).tells → IsSettled outside crash_states p
       → IsLog (outside p).trace.written store (outside p).anchor history first.store → IsScriptAt (outside p) kept made first
       → SoFar outside crash_states store p p history first [] [] kept made
   so_far_none p history first kept made told settled log at = record {
@@ -83,7 +83,7 @@ module _ {D : Type 0} (outside : D → Outside) (crash_states : D → CrashState
     any_moment = leaves_no_part p history [] first told settled log;
   }
 
-  module _ (old mid new : D) (history : History) (first : ScriptState) (lines : List (List ℕ)) (replies : List Reply) (kept : memory.Store) (made : session.Session)
+  module _ (old mid new : D) (history : History) (first : ScriptState) (lines : List (List ℕ)) (replies : List Reply) (kept : OpenLog) (made : session.Session)
       (s : SoFar outside crash_states store old mid history first lines replies kept made) (grows : Extends (outside mid).trace (outside new).trace) where
     -- what a stop left before a line, and what one leaves while it is answered
     pub part_along : (added : History) → LeavesOnly outside crash_states mid new (λ i a. HasPartOf (outside new).trace.written store (history ++ added_by s.answers) added a)
@@ -97,7 +97,7 @@ module _ {D : Type 0} (outside : D → Outside) (crash_states : D → CrashState
         (λ i a part. part_behind store a (outside new).trace.written history (added_by s.answers) added part))
 
     -- one line more
-    pub so_far_more : (line : List ℕ) (reply : Reply) (kept' : memory.Store) (made' : session.Session)
+    pub so_far_more : (line : List ℕ) (reply : Reply) (kept' : OpenLog) (made' : session.Session)
         → LineAnswered outside crash_states store mid new (history ++ added_by s.answers) s.last line reply kept' made'
         → SoFar outside crash_states store old new history first (lines ++ line ∷ []) (replies ++ reply ∷ []) kept' made'
     so_far_more line reply kept' made' a =

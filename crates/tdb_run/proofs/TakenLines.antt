@@ -16,7 +16,7 @@ use Rattle.tdb_run.specs.declared.script_lines.Next.{Next}
 use Rattle.tdb_run.specs.declared.script_lines.Next.TheVariants.{Line, TooLong, End}
 use Rattle.tdb_run.specs.declared.script_lines.ScriptLines.{ScriptLines}
 use Rattle.tdb_run.specs.declared.session.Session as session
-use Rattle.tdb_chunk.specs.declared.store.Store as memory
+use Rattle.tdb_chunk.specs.declared.open_log.OpenLog.{OpenLog}
 use Rattle.tdb_run.proofs.SoFar.{Counts, leaves_no_part}
 
 -- a line that isn't too long is the one at hand
@@ -30,7 +30,7 @@ pub taken_too_long : (taken : Next) (lines : ScriptLines) (line : List ℕ) → 
 taken_too_long taken lines line long is = subst (λ (t : Next). IsTakenAs t lines line) long is
 
 -- A line that is too long is none of the grammar: nothing is done, and the reply says that it isn't built.
-pub too_long_answered : {D : Type 0} (outside : D → Outside) (crash_states : D → CrashStates) (counts : Counts outside crash_states) (store : Store) (p : D) (history : History) (state : ScriptState) (line : List ℕ) (reply : Reply) (kept : memory.Store)
+pub too_long_answered : {D : Type 0} (outside : D → Outside) (crash_states : D → CrashStates) (counts : Counts outside crash_states) (store : Store) (p : D) (history : History) (state : ScriptState) (line : List ℕ) (reply : Reply) (kept : OpenLog)
     (made : session.Session) → 4095 < length line → reply ≡ RefusedUnbuilt → IsTrue (outside p).tells → IsSettled outside crash_states p
     → IsLog (outside p).trace.written store (outside p).anchor history state.store → IsScriptAt (outside p) kept made state
     → LineAnswered outside crash_states store p p history state line reply kept made

@@ -18,7 +18,7 @@ use Rattle.tdb_run.specs.Session.{added_by}
 use Rattle.tdb_run.specs.Unread.{unread}
 use Rattle.tdb_run.specs.declared.script_lines.ScriptLines.{ScriptLines}
 use Rattle.tdb_run.specs.declared.session.Session as session
-use Rattle.tdb_chunk.specs.declared.store.Store as memory
+use Rattle.tdb_chunk.specs.declared.open_log.OpenLog.{OpenLog}
 use Rattle.tdb_run.specs.declared.status.Success.TheVariants.{Script}
 use Rattle.tdb_run.specs.declared.status.Status.{Status}
 use Rattle.tdb_run.specs.declared.status.Status.TheVariants.{Done}
@@ -30,27 +30,27 @@ use Rattle.tdb_run.proofs.SoFar.{Counts, SoFar, so_far_more, so_far_none}
 use Rattle.tdb_run.proofs.Stops.{line_cases, put_cases}
 
 -- the lines so far were answered, each reply put, and each commit made
-pub record Turned {D : Type 0} (outside : D → Outside) (crash_states : D → CrashStates) (store : Store) (came now : SourceContent) (before after : SinkContent) (old : D) (first_kept : memory.Store) (first_made : session.Session) (turn : Turn D) : Type 0 where
+pub record Turned {D : Type 0} (outside : D → Outside) (crash_states : D → CrashStates) (store : Store) (came now : SourceContent) (before after : SinkContent) (old : D) (first_kept : OpenLog) (first_made : session.Session) (turn : Turn D) : Type 0 where
   pub conversing : Conversing came now before after turn.lines
   pub so_far : Premised outside old turn.platform store first_kept first_made
       (λ history first. SoFar outside crash_states store old turn.platform history first conversing.conversation.lines conversing.conversation.replies turn.store turn.session)
 
 -- what the lines of a script have come to
-abbrev pub Ended : {D : Type 0} → (D → Outside) → (D → CrashStates) → Store → SourceContent → SourceContent → SinkContent → SinkContent → D → D → memory.Store → session.Session → Status → Type 0
+abbrev pub Ended : {D : Type 0} → (D → Outside) → (D → CrashStates) → Store → SourceContent → SourceContent → SinkContent → SinkContent → D → D → OpenLog → session.Session → Status → Type 0
 Ended outside crash_states store came gone before after old new first_kept first_made status =
     (served : Served came gone before after status)
     × Premised outside old new store first_kept first_made (λ history state. ScriptRan outside crash_states store served.conversation old new history state status)
 
 module _ {D : Type 0} (outside : D → Outside) (crash_states : D → CrashStates) (counts : Counts outside crash_states) (numbered : (p : D) → IsTrue (outside p).tells → IsNumbered (outside p).trace) (store : Store) where
   -- before the first line
-  pub turned_none : (came : SourceContent) (before : SinkContent) (p : D) (kept : memory.Store) (made : session.Session) (lines : ScriptLines) → unread lines ≡ [] → lines.taken ≡ 0 → IsSettled outside crash_states p
+  pub turned_none : (came : SourceContent) (before : SinkContent) (p : D) (kept : OpenLog) (made : session.Session) (lines : ScriptLines) → unread lines ≡ [] → lines.taken ≡ 0 → IsSettled outside crash_states p
       → Turned outside crash_states store came came before before p kept made (record { lines = lines; platform = p; store = kept; session = made })
   turned_none came before p kept made lines none zero settled = record {
     conversing = conversing_none came before lines none zero;
     so_far = λ told sound history first log at. so_far_none outside crash_states counts store p history first kept made told settled log at;
   }
 
-  module _ (came now later : SourceContent) (same : now.tells ≡ came.tells) (before after last : SinkContent) (still : after.tells ≡ before.tells) (old : D) (first_kept : memory.Store) (first_made : session.Session) (turn turn' : Turn D)
+  module _ (came now later : SourceContent) (same : now.tells ≡ came.tells) (before after last : SinkContent) (still : after.tells ≡ before.tells) (old : D) (first_kept : OpenLog) (first_made : session.Session) (turn turn' : Turn D)
       (t : Turned outside crash_states store came now before after old first_kept first_made turn) (first_goes : GoesOn store (outside old) (outside turn.platform)) (goes : GoesOn store (outside turn.platform) (outside turn'.platform)) where
     abbrev mid : D
     mid = turn.platform

@@ -13,7 +13,7 @@ use Rattle.tdb_overlay.specs.Log.{IsLog}
 use Rattle.tdb_overlay.specs.Required.{IsRequired, RestsOn}
 use Rattle.tdb_overlay.specs.SealedOnly.{OnlySealed}
 use Rattle.tdb_overlay.specs.StoreState.{first_state}
-use Rattle.tdb_chunk.proofs.Laying.{sealed_along, sealed_none}
+use Rattle.tdb_chunk.proofs.Placing.{sealed_along, sealed_none}
 use Rattle.tdb_run.specs.Served.{IsUnwritten}
 
 -- an anchor of count 0 has a log of no text

@@ -12,7 +12,7 @@ use Rattle.tdb_model.specs.State.{State, Partition}
 use Rattle.tdb_platform.specs.Outside.{Anchor, Outside}
 use Rattle.tdb_platform.specs.CrashStates.{CrashStates, LeavesNothing, Settles, now}
 use Rattle.tdb_chunk.specs.Known.{Knows}
-use Rattle.tdb_chunk.specs.declared.store.Store as memory
+use Rattle.tdb_chunk.specs.declared.open_log.OpenLog.{OpenLog}
 use Rattle.tdb_overlay.specs.Found.{Store}
 use Rattle.tdb_overlay.specs.Log.{IsLog}
 use Rattle.tdb_overlay.specs.Required.{IsOpeningPiece}
@@ -68,7 +68,7 @@ OverStart outside old new store holds =
 
 -- The store is open, in this state. No piece was read but those that opening the log of the start reads, and a stop since the
 -- anchor was told leaves the log with or without what was committed.
-pub record HasBegun {D : Type 0} (outside : D → Outside) (crash_states : D → CrashStates) (store : Store) (opens : StoreState → History → StoreState → Type 0) (old new : D) (history : History) (from : StoreState) (kept : memory.Store) : Type 0 where
+pub record HasBegun {D : Type 0} (outside : D → Outside) (crash_states : D → CrashStates) (store : Store) (opens : StoreState → History → StoreState → Type 0) (old new : D) (history : History) (from : StoreState) (kept : OpenLog) : Type 0 where
   pub begun : History
   pub opened : StoreState
   pub begins : opens from begun opened

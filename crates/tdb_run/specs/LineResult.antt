@@ -16,7 +16,7 @@ use Rattle.tdb_run.specs.SessionState.{IsScriptAt}
 use Rattle.tdb_run.specs.Opened.{IsSound}
 use Rattle.tdb_run.specs.declared.session.Session as session
 use Rattle.tdb_run.specs.declared.status.Status.{Status}
-use Rattle.tdb_chunk.specs.declared.store.Store as chunk
+use Rattle.tdb_chunk.specs.declared.open_log.OpenLog.{OpenLog}
 
 -- the log of an anchor is a history and a first part of some commits
 abbrev pub HasPartOf : List WrittenPiece → Store → History → History → Anchor → Type 0
@@ -29,7 +29,7 @@ HasAllOf written store history surely maybe a =
     (to : StoreState) × (IsLog written store a (history ++ surely) to ⊎ IsLog written store a (history ++ (surely ++ maybe)) to)
 
 -- A line was answered so: its commit was made, if it has one, and a stop meanwhile leaves the log with or without it.
-pub record AnsweredBy {D : Type 0} (outside : D → Outside) (crash_states : D → CrashStates) (store : Store) (old new : D) (history : History) (is_answer : Answer → Type 0) (reply : Reply) (kept : chunk.Store) (session' : session.Session) : Type 0 where
+pub record AnsweredBy {D : Type 0} (outside : D → Outside) (crash_states : D → CrashStates) (store : Store) (old new : D) (history : History) (is_answer : Answer → Type 0) (reply : Reply) (kept : OpenLog) (session' : session.Session) : Type 0 where
   pub given : Answer
   pub answers : is_answer given
   pub reply_is : given.reply ≡ reply
@@ -37,7 +37,7 @@ pub record AnsweredBy {D : Type 0} (outside : D → Outside) (crash_states : D �
   pub at : IsScriptAt (outside new) kept session' given.next
   pub any_moment : LeavesOnly outside crash_states old new (λ i a. HasPartOf (outside new).trace.written store history given.added a)
 
-abbrev pub LineAnswered : {D : Type 0} → (D → Outside) → (D → CrashStates) → Store → D → D → History → ScriptState → List ℕ → Reply → chunk.Store → session.Session → Type 0
+abbrev pub LineAnswered : {D : Type 0} → (D → Outside) → (D → CrashStates) → Store → D → D → History → ScriptState → List ℕ → Reply → OpenLog → session.Session → Type 0
 LineAnswered outside crash_states store old new history state line reply kept session' =
     AnsweredBy outside crash_states store old new history (λ given. AnswersBetween store (outside old) (outside new) state line given) reply kept session'
 
@@ -59,12 +59,12 @@ LineStopped outside crash_states store old new history state line status =
     StoppedBy outside crash_states store old new history (λ given. AnswersBetween store (outside old) (outside new) state line given) (GetsRecord state line) status
 
 -- What holds of each state of a script that the store and the session stand for, and its log.
-abbrev pub Premised : {D : Type 0} → (D → Outside) → D → D → Store → chunk.Store → session.Session → (History → ScriptState → Type 0) → Type 0
+abbrev pub Premised : {D : Type 0} → (D → Outside) → D → D → Store → OpenLog → session.Session → (History → ScriptState → Type 0) → Type 0
 Premised outside old new store kept session' holds =
     IsTrue (outside old).tells → IsSound store (outside new) → (history : History) (state : ScriptState)
     → IsLog (outside old).trace.written store (outside old).anchor history state.store → IsScriptAt (outside old) kept session' state → holds history state
 
 -- What the log needs stood before, and stands.
-abbrev pub StaysWhole : {D : Type 0} → (D → Outside) → D → D → Store → chunk.Store → session.Session → Type 0
+abbrev pub StaysWhole : {D : Type 0} → (D → Outside) → D → D → Store → OpenLog → session.Session → Type 0
 StaysWhole outside old new store kept session' =
     Premised outside old new store kept session' (λ history state. IsIntact (outside old).trace.written store (outside old).anchor → IsIntact (outside new).trace.written store (outside new).anchor)

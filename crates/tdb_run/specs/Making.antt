@@ -7,7 +7,7 @@ use Rattle.tdb_model.specs.declared.error.CommitError.TheVariants as refusals
 use Rattle.tdb_platform.specs.Outside.{Anchor, Outside}
 use Rattle.tdb_platform.specs.CrashStates.{CrashStates, LeavesOnly, now}
 use Rattle.tdb_chunk.specs.Known.{Knows}
-use Rattle.tdb_chunk.specs.declared.store.Store as memory
+use Rattle.tdb_chunk.specs.declared.open_log.OpenLog.{OpenLog}
 use Rattle.tdb_overlay.specs.Found.{Store}
 use Rattle.tdb_overlay.specs.Log.{IsLog}
 use Rattle.tdb_overlay.specs.StoreState.{StoreState}
@@ -20,7 +20,7 @@ use Rattle.tdb_run.specs.declared.status.Status.{Status}
 use Rattle.tdb_run.specs.declared.status.Status.TheVariants.{Done, Usage, AnchorCount, Damaged, PlatformFault, SourceFault, SinkFault, Memory, End, Refused}
 
 -- the store is open in this state, and nothing was read
-pub record HasMade {D : Type 0} (outside : D → Outside) (crash_states : D → CrashStates) (store : Store) (opens : StoreState → History → StoreState → Type 0) (old new : D) (history : History) (from : StoreState) (kept : memory.Store) : Type 0 where
+pub record HasMade {D : Type 0} (outside : D → Outside) (crash_states : D → CrashStates) (store : Store) (opens : StoreState → History → StoreState → Type 0) (old new : D) (history : History) (from : StoreState) (kept : OpenLog) : Type 0 where
   pub begun : History
   pub opened : StoreState
   pub begins : opens from begun opened

@@ -12,14 +12,14 @@ use Rattle.tdb_overlay.specs.StoreState.{StoreState, commit_on}
 use Rattle.tdb_chunk.specs.Known.{Knows}
 use Rattle.tdb_run.specs.LineResult.{HasAllOf, HasPartOf}
 use Rattle.tdb_run.specs.Script.{refusal_reply}
-use Rattle.tdb_chunk.specs.declared.store.Store as memory
+use Rattle.tdb_chunk.specs.declared.open_log.OpenLog.{OpenLog}
 
 -- a commit of these changes after a state of the store
 abbrev pub commit_after : StoreState → List Change → History
 commit_after from changes = (from.count + 1, changes) ∷ []
 
 -- the commit was made, and nothing was read
-pub record IsCommitted {D : Type 0} (outside : D → Outside) (crash_states : D → CrashStates) (store : Store) (old new : D) (history : History) (from : StoreState) (changes : List Change) (kept : memory.Store) : Type 0 where
+pub record IsCommitted {D : Type 0} (outside : D → Outside) (crash_states : D → CrashStates) (store : Store) (old new : D) (history : History) (from : StoreState) (changes : List Change) (kept : OpenLog) : Type 0 where
   pub to : StoreState
   pub allowed : commit_on store from changes ≡ Ok to
   pub log : IsLog (outside new).trace.written store (outside new).anchor (history ++ commit_after from changes) to

@@ -14,13 +14,13 @@ use Rattle.tdb_run.specs.Stopping.{IsNextLine, IsStopOfLine, LeavesUnanswered, S
 use Rattle.tdb_run.specs.declared.script_lines.ScriptLines.{ScriptLines}
 use Rattle.tdb_run.specs.declared.session.Session.{Session}
 use Rattle.tdb_run.specs.declared.status.Status.{Status}
-use Rattle.tdb_chunk.specs.declared.store.Store as memory
+use Rattle.tdb_chunk.specs.declared.open_log.OpenLog.{OpenLog}
 
 -- What a turn begins with: the lines, the platform, the store and the session.
 pub record Turn (D : Type 0) : Type 0 where
   pub lines : ScriptLines
   pub platform : D
-  pub store : memory.Store
+  pub store : OpenLog
   pub session : Session
 
 -- the next line was read and answered

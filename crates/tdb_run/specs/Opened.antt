@@ -10,10 +10,10 @@ use Rattle.tdb_overlay.specs.Growth.{IsSettled}
 use Rattle.tdb_overlay.specs.SealedOnly.{OnlySealed}
 use Rattle.tdb_chunk.specs.Known.{IsAtHead}
 use Rattle.tdb_chunk.specs.Writing.{IsWritable}
-use Rattle.tdb_chunk.specs.declared.store.Store as memory
+use Rattle.tdb_chunk.specs.declared.open_log.OpenLog.{OpenLog}
 
 -- The anchor names the store's last text, a stop leaves this anchor, and notes may be written.
-pub record IsOpened {D : Type 0} (outside : D → Outside) (crash_states : D → CrashStates) (p : D) (store : memory.Store) : Type 0 where
+pub record IsOpened {D : Type 0} (outside : D → Outside) (crash_states : D → CrashStates) (p : D) (store : OpenLog) : Type 0 where
   pub at_head : IsAtHead (outside p) store
   pub settled : IsSettled outside crash_states p
   pub writable : IsWritable store.log.overlay 1

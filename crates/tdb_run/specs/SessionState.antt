@@ -1,7 +1,7 @@
 -- What a run keeps in memory of a script stands for a state of it.
 use Rattle.std.specs.Prelude.{◌≡◌, ◌==◌, ℕ, List, [], map, Option, Some, None, if◌then◌else◌}
 use Rattle.std.specs.Option.{option_map}
-use Rattle.tdb_chunk.specs.declared.store.Store as chunk
+use Rattle.tdb_chunk.specs.declared.open_log.OpenLog.{OpenLog}
 use Rattle.tdb_chunk.specs.Known.{Knows}
 use Rattle.tdb_platform.specs.Outside.{Outside}
 use Rattle.tdb_run.specs.Script as script
@@ -27,7 +27,7 @@ pub record IsSessionAt (session : Session) (s : ScriptState) : Type 0 where
   pub transaction : transaction_in session.transaction ≡ s.transaction
 
 -- the store in memory and the session
-pub record IsScriptAt (o : Outside) (kept : chunk.Store) (made : Session) (s : ScriptState) : Type 0 where
+pub record IsScriptAt (o : Outside) (kept : OpenLog) (made : Session) (s : ScriptState) : Type 0 where
   pub store : Knows o kept s.store
   pub session : IsSessionAt made s
 

@@ -27,7 +27,7 @@ use crate::status::Status;
 use crate::transaction::{NewNote, new_note};
 use std::alloc::{AllocError, Global};
 use tdb_base::{Rank, TxId};
-use tdb_chunk::{Chunk, Store};
+use tdb_chunk::{Chunk, OpenLog};
 use tdb_model::{CommitError, ReadError};
 use tdb_platform::Platform;
 use tdb_script::{Line, Reply, read_line, read_stored_note, stored_note};
@@ -43,7 +43,7 @@ pub(crate) fn answer_too_long() -> Reply
 pub(crate) fn answer<P: Platform>(
     alloc: Global,
     platform: &mut P,
-    store: &mut Store,
+    store: &mut OpenLog,
     session: &mut Session,
     bytes: &[u8],
 ) -> Result<Reply, Status>
@@ -68,7 +68,7 @@ pub(crate) fn answer<P: Platform>(
 fn answer_line<P: Platform>(
     alloc: Global,
     platform: &mut P,
-    store: &mut Store,
+    store: &mut OpenLog,
     session: &mut Session,
     line: Line<'_>,
 ) -> Result<Reply, Status>
@@ -122,7 +122,7 @@ fn chunk_reply(alloc: Global, number: TxId, id: Rank, chunk: &[u8]) -> Result<Re
 fn get_note<P: Platform>(
     alloc: Global,
     platform: &mut P,
-    store: &Store,
+    store: &OpenLog,
     session: &Session,
     number: TxId,
     id: Rank,
@@ -153,7 +153,7 @@ fn get_note<P: Platform>(
 fn get_committed<P: Platform>(
     alloc: Global,
     platform: &mut P,
-    store: &Store,
+    store: &OpenLog,
     number: TxId,
     id: Rank,
 ) -> Result<Reply, Status>
@@ -202,7 +202,7 @@ fn chunks_of(alloc: Global, notes: &[NewNote]) -> Result<Vec<Chunk>, AllocError>
 fn commit<P: Platform>(
     alloc: Global,
     platform: &mut P,
-    store: &mut Store,
+    store: &mut OpenLog,
     session: &mut Session,
     number: TxId,
 ) -> Result<Reply, Status>
@@ -244,7 +244,7 @@ fn commit<P: Platform>(
 fn commit_notes<P: Platform>(
     alloc: Global,
     platform: &mut P,
-    store: &mut Store,
+    store: &mut OpenLog,
     chunks: &[Chunk],
 ) -> Result<Option<Reply>, Status>
     requires opened { IsOpened P.outside P.crash_states platform.old store.old }

@@ -21,7 +21,7 @@ use crate::script_lines::{Next, ScriptLines};
 use crate::session::{NOTES_PART, Session};
 use crate::status::{Status, Success};
 use std::alloc::Global;
-use tdb_chunk::Store;
+use tdb_chunk::OpenLog;
 use tdb_platform::Platform;
 use tdb_script::{Reply, write_reply};
 use tdb_stream::{Failed, Sink, Source};
@@ -44,7 +44,7 @@ fn take_line<S: Source>(source: &mut S, lines: &mut ScriptLines) -> Result<Next,
 fn answer_taken<P: Platform>(
     alloc: Global,
     platform: &mut P,
-    store: &mut Store,
+    store: &mut OpenLog,
     session: &mut Session,
     lines: &ScriptLines,
     next: Next,
@@ -71,7 +71,7 @@ fn answer_next<S: Source, P: Platform>(
     alloc: Global,
     source: &mut S,
     platform: &mut P,
-    store: &mut Store,
+    store: &mut OpenLog,
     lines: &mut ScriptLines,
     session: &mut Session,
 ) -> Result<Reply, Status>
@@ -116,7 +116,7 @@ fn answer_one<S: Source, K: Sink, P: Platform>(
     source: &mut S,
     sink: &mut K,
     platform: &mut P,
-    store: &mut Store,
+    store: &mut OpenLog,
     lines: &mut ScriptLines,
     session: &mut Session,
 ) -> Result<Reply, Status>
@@ -154,7 +154,7 @@ fn serve_lines<S: Source, K: Sink, P: Platform>(
     source: &mut S,
     sink: &mut K,
     platform: &mut P,
-    store: &mut Store,
+    store: &mut OpenLog,
     lines: &mut ScriptLines,
     session: &mut Session,
 ) -> Status
@@ -182,7 +182,7 @@ fn serve_lines<S: Source, K: Sink, P: Platform>(
 }
 
 // A session that begins with the store as it is.
-fn new_session(store: &Store) -> Session
+fn new_session(store: &OpenLog) -> Session
     ensures { (outside : Outside) (from : StoreState) → Knows outside store.now from → IsSessionAt result (script_at from) }
 {
     match store.leader(NOTES_PART) {
@@ -197,7 +197,7 @@ pub(crate) fn serve<S: Source, K: Sink, P: Platform>(
     source: &mut S,
     sink: &mut K,
     platform: &mut P,
-    store: &mut Store,
+    store: &mut OpenLog,
 ) -> Status
     requires opened { IsOpened P.outside P.crash_states platform.old store.old }
     ensures served { (served : Served (S.content source.old) (S.content source.new) (K.content sink.old) (K.content sink.new) result)

@@ -24,8 +24,8 @@ ghost use Rattle.tdb_run.specs.declared.status.Status.TheVariants.{AnchorCount, 
 use crate::status::{Finding, Refusal, Status};
 use std::alloc::Global;
 use tdb_append::slot_of;
-use tdb_base::PartId;
-use tdb_chunk::{Store, StoreError};
+use tdb_base::{PartId, Suite};
+use tdb_chunk::{OpenLog, StoreError};
 use tdb_model::CommitError;
 use tdb_overlay::Keys;
 use tdb_platform::{Failed, Platform};
@@ -37,7 +37,7 @@ pub(crate) fn new_store<P: Platform>(
     platform: &mut P,
     secret: &[u8; 32],
     segments: u32,
-) -> Result<Store, Status>
+) -> Result<OpenLog, Status>
     requires least { 16 ≤ segments }
     requires most { segments ≤ 4096 }
     ensures opened { IfOk result (λ s. IsOpened P.outside P.crash_states platform.new s) }
@@ -69,7 +69,7 @@ fn make_store<P: Platform>(
     platform: &mut P,
     keys: Keys,
     segments: u32,
-) -> Result<Store, Status>
+) -> Result<OpenLog, Status>
     requires first { IsTrue (P.outside platform.old).tells → (P.outside platform.old).anchor.0 ≡ 0 }
     requires settled { IsSettled P.outside P.crash_states platform.old }
     requires least { 16 ≤ segments }
@@ -85,7 +85,7 @@ fn make_store<P: Platform>(
     ensures goes_on { GoesOn (plain_store keys) (P.outside platform.old) (P.outside platform.new) }
     ensures whole { StaysIntact (plain_store keys) (P.outside platform.old) (P.outside platform.new) }
 {
-    let mut store = match Store::format(alloc, platform, keys, segments) {
+    let mut store = match OpenLog::format(alloc, platform, keys, Suite::Plain, segments) {
         Ok(store) => store,
         Err(StoreError::Memory) => return Err(Status::Memory),
         Err(StoreError::Fault) => return Err(Status::PlatformFault),
@@ -100,7 +100,7 @@ fn make_store<P: Platform>(
 fn make_partitions<P: Platform>(
     alloc: Global,
     platform: &mut P,
-    store: &mut Store,
+    store: &mut OpenLog,
 ) -> Result<(), Status>
     requires at_head { IsAtHead (P.outside platform.old) store.old }
     requires settled { IsSettled P.outside P.crash_states platform.old }
@@ -142,7 +142,7 @@ pub(crate) fn open_store<P: Platform>(
     alloc: Global,
     platform: &mut P,
     secret: &[u8; 32],
-) -> Result<Store, Status>
+) -> Result<OpenLog, Status>
     ensures opened { IfOk result (λ s. IsOpened P.outside P.crash_states platform.new s) }
     ensures keys { IfOk result (λ s. (store_of s).secret ≡ secret.now) }
     ensures begun { (store : found.Store) → store.secret ≡ secret.now → IfOk result (λ s. OverStart P.outside platform.old platform.new store
@@ -160,7 +160,7 @@ pub(crate) fn open_store<P: Platform>(
 {
     let keys = Keys::new(secret);
     match recover(alloc, platform, &keys) {
-        Ok(log) => with_partitions(alloc, platform, Store::open(keys, log)),
+        Ok(log) => with_partitions(alloc, platform, OpenLog::open(keys, log)),
         Err(error) => Err(status_of(error)),
     }
 }
@@ -182,8 +182,8 @@ fn status_of(error: OpenError) -> Status
 fn with_partitions<P: Platform>(
     alloc: Global,
     platform: &mut P,
-    store: Store,
-) -> Result<Store, Status>
+    store: OpenLog,
+) -> Result<OpenLog, Status>
     requires at_head { IsAtHead (P.outside platform.old) store }
     requires settled { IsSettled P.outside P.crash_states platform.old }
     ensures opened { IfOk result (λ s. IsOpened P.outside P.crash_states platform.new s) }
@@ -208,7 +208,7 @@ fn with_partitions<P: Platform>(
 }
 
 // Whether the store has both partitions as a run makes them.
-fn has_both(store: &Store) -> bool
+fn has_both(store: &OpenLog) -> bool
     ensures { IsTrue result ↔ (IsWritable store.now.log.overlay 1 × IsWritable store.now.log.overlay 2) }
 {
     store.may_write(PartId(1)) && store.may_write(PartId(2))
@@ -218,8 +218,8 @@ fn has_both(store: &Store) -> bool
 fn with_new_partitions<P: Platform>(
     alloc: Global,
     platform: &mut P,
-    store: Store,
-) -> Result<Store, Status>
+    store: OpenLog,
+) -> Result<OpenLog, Status>
     requires at_head { IsAtHead (P.outside platform.old) store }
     requires settled { IsSettled P.outside P.crash_states platform.old }
     requires neither { HasNeither store.log.overlay }

@@ -10,7 +10,7 @@ use Rattle.tdb_overlay.specs.StoreState.{record_length}
 use Rattle.tdb_chunk.specs.Formatting.{IsStart, store_under}
 use Rattle.tdb_chunk.specs.LaidOut.{LaidOut}
 use Rattle.tdb_chunk.specs.Text.{next_commit}
-use Rattle.tdb_chunk.proofs.Laying.{laid_out_none}
+use Rattle.tdb_chunk.proofs.Placing.{laid_out_none}
 use Rattle.tdb_chunk.proofs.Starting.{start_is, fresh_valid}
 use Rattle.tdb_chunk.proofs.format.lay_start.Goals as goal
 

@@ -13,7 +13,7 @@ use Rattle.tdb_overlay.specs.NextText.{IsLaidText}
 use Rattle.tdb_overlay.specs.SealedOnly.{IsTextInSlot}
 use Rattle.tdb_overlay.proofs.PutRan.{put_ran}
 use Rattle.tdb_chunk.specs.Formatting.{store_under}
-use Rattle.tdb_chunk.proofs.Laying.{put_sealed}
+use Rattle.tdb_chunk.proofs.Placing.{put_sealed}
 use Rattle.tdb_chunk.proofs.text.put_commit.Goals as goal
 
 pub returns-clause-sealed : goal.returns-clause-sealed

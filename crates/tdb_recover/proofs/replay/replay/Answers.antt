@@ -33,6 +33,14 @@ loop-text-init g c = record {
 pub loop-text-smaller : goal.loop-text-smaller
 loop-text-smaller g c = omega (arith, c.in-Some.ensures.len)
 
+pub replay_list-requires : goal.replay_list-requires
+replay_list-requires g c =
+    let left = c.pop.new.self.items in
+    let base = c.args.chain.base in
+    let popped : reverse c.loop-text.commits.items ≡ c.in-Some.text ∷ reverse left = ap (λ (l : List Commit). reverse l) c.in-Some.ensures.items ∙ reverse_push left c.in-Some.text in
+    let behind : AllByRecursion (IsBehind base) (c.in-Some.text ∷ reverse left) = subst (AllByRecursion (IsBehind base)) popped c.loop-text.invariant.behind in
+    omega (arith, behind.0.later)
+
 pub loop-text-preserved : goal.loop-text-preserved
 loop-text-preserved g c =
     let outside = g.P.Platform.outside in

@@ -15,7 +15,7 @@ use Rattle.tdb_run.specs.Begin.{refusal_of}
 use Rattle.tdb_run.specs.NotesCommit.{IsCommitted, MayBeCommitted}
 use Rattle.tdb_run.specs.ScriptServed.{OverLog, ScriptWhole}
 use Rattle.tdb_chunk.specs.declared.format.StoreError.{StoreError}
-use Rattle.tdb_chunk.specs.declared.store.Store as memory
+use Rattle.tdb_chunk.specs.declared.open_log.OpenLog.{OpenLog}
 use Rattle.tdb_run.specs.declared.status.Refusal.{Refusal}
 use Rattle.tdb_run.specs.declared.status.Status.{Status}
 use Rattle.tdb_run.specs.declared.status.Status.TheVariants.{Refused}
@@ -25,7 +25,7 @@ use Rattle.tdb_run.proofs.Over.{goes_along}
 use Rattle.tdb_run.proofs.Room.{opening_allowed}
 use Rattle.tdb_run.proofs.starting.make_store.Goals as goal
 
-the_refusal : (status : Status) (refusal : Refusal) → ◌≡◌ {A = Result memory.Store Status} (Err status) (Err (Refused refusal)) → ◌≡◌ {A = Result (Unit {0}) Status} (Err status) (Err (Refused refusal))
+the_refusal : (status : Status) (refusal : Refusal) → ◌≡◌ {A = Result OpenLog Status} (Err status) (Err (Refused refusal)) → ◌≡◌ {A = Result (Unit {0}) Status} (Err status) (Err (Refused refusal))
 the_refusal status refusal is = let same : status ≡ Refused refusal = cc in ap (λ (s : Status). Err s) same
 
 pub returns-in-Err-Memory-clause-not_made : goal.returns-in-Err-Memory-clause-not_made

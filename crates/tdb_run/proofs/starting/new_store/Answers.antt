@@ -1,6 +1,6 @@
 use Rattle.std.proofs.Common.{◌≡◌, Err, IfOk, IfErr, IsTrue, List, ℕ, ap, refl, true, ◌∙◌, subst}
 use Rattle.tdb_chunk.specs.Formatting.{plain_store}
-use Rattle.tdb_chunk.specs.declared.store.Store as memory
+use Rattle.tdb_chunk.specs.declared.open_log.OpenLog.{OpenLog}
 use Rattle.tdb_overlay.specs.Found.{Store}
 use Rattle.tdb_overlay.specs.Intact.{StaysIntact}
 use Rattle.tdb_run.specs.Begin.{HasBegun, HasNotBegun, IsExplainedStop, IsNewStore, OverStart}
@@ -42,10 +42,10 @@ returns-in-Ok-eq0-default-clause-begun g c =
     let new = c.make_store.new.platform in
     let a = c.anchor.ensures in
     let reads = anchor_reads outside crash_states counts old mid c.anchor.result a.trace a.anchor a.image a.now a.time a.told in
-    let made = subst (λ (k : List ℕ). IfOk c.make_store.result (λ (s : memory.Store). OverStart outside mid new (plain_store k)
+    let made = subst (λ (k : List ℕ). IfOk c.make_store.result (λ (s : OpenLog). OverStart outside mid new (plain_store k)
     (λ history from. HasMade outside crash_states (plain_store k) (IsNewStore (plain_store k) c.args.segments) mid new history from s))) c.new.ensures c.make_store.ensures.made in
-    if_ok (λ (s : memory.Store). OverStart outside mid new store (λ history from. HasMade outside crash_states store (IsNewStore store c.args.segments) mid new history from s))
-    (λ (s : memory.Store). OverStart outside old new store (λ history from. HasBegun outside crash_states store (IsNewStore store c.args.segments) old new history from s)) c.make_store.result
+    if_ok (λ (s : OpenLog). OverStart outside mid new store (λ history from. HasMade outside crash_states store (IsNewStore store c.args.segments) mid new history from s))
+    (λ (s : OpenLog). OverStart outside old new store (λ history from. HasBegun outside crash_states store (IsNewStore store c.args.segments) old new history from s)) c.make_store.result
     (λ s is. begun_over outside crash_states counts old mid reads store (IsNewStore store c.args.segments) new s a.trace is) made
 
 pub returns-in-Ok-eq0-default-clause-not_begun : goal.returns-in-Ok-eq0-default-clause-not_begun

@@ -1,6 +1,6 @@
 use Rattle.std.proofs.Common.{◌≡◌, Err, ap, sym, ◌∙◌, subst}
 use Rattle.tdb_chunk.specs.Known.{store_of}
-use Rattle.tdb_chunk.specs.declared.store.Store as memory
+use Rattle.tdb_chunk.specs.declared.open_log.OpenLog.{OpenLog}
 use Rattle.tdb_overlay.specs.Needed.{needed}
 use Rattle.tdb_overlay.specs.Intact.{IsIntact}
 use Rattle.tdb_overlay.specs.Recovered.{IsRecovered}
@@ -28,9 +28,9 @@ returns-in-Ok-clause-begun g c store secret =
     let mid = c.recover.new.platform in
     let new = c.with_partitions.new.platform in
     let reads = c.recover.ensures.reads in
-    if_ok_both (λ (s : memory.Store). OverLog outside mid new (store_of c.open.result) c.open.result (λ history from. HasMade outside crash_states (store_of c.open.result) (IsReopened (store_of c.open.result)) mid new history from s))
-    (λ (s : memory.Store). store_of s ≡ store_of c.open.result)
-    (λ (s : memory.Store). OverStart outside old new store (λ history from. (store_of s ≡ store) × HasBegun outside crash_states store (IsReopened store) old new history from s)) c.with_partitions.result
+    if_ok_both (λ (s : OpenLog). OverLog outside mid new (store_of c.open.result) c.open.result (λ history from. HasMade outside crash_states (store_of c.open.result) (IsReopened (store_of c.open.result)) mid new history from s))
+    (λ (s : OpenLog). store_of s ≡ store_of c.open.result)
+    (λ (s : OpenLog). OverStart outside old new store (λ history from. (store_of s ≡ store) × HasBegun outside crash_states store (IsReopened store) old new history from s)) c.with_partitions.result
     (λ s made same told sound history from is.
     let k = over_opened outside crash_states counts g.met.P.Platform.numbered c.new-keys.result old mid new reads c.open.result c.with_partitions.ensures.goes_on c.open.ensures.keys
     (λ st h last premises. subst (λ (r : Recovered). IsRecovered (needed (outside old).trace.written st (outside old).anchor) st r last) (sym c.open.ensures.log) (c.in-Ok.ensures.recovered st h last premises)) store (secret ∙ sym c.new-keys.ensures)

@@ -3,7 +3,7 @@ use Rattle.std.proofs.lemmas.List.{map-append}
 use Rattle.tdb_append.specs.Placed.{Placed, placed, placed_one}
 use Rattle.tdb_seg.specs.SegmentSpace.{place_in}
 use Rattle.tdb_chunk.specs.LaidOut.{LaidOut}
-use Rattle.tdb_chunk.proofs.Laying.{laid_out_push}
+use Rattle.tdb_chunk.proofs.Placing.{laid_out_push}
 use Rattle.tdb_chunk.proofs.batch.Batch.lay.Goals as goal
 
 pub returns-clause-laid_out : goal.returns-clause-laid_out

@@ -29,7 +29,7 @@ returns-in-Err-clause-commit g c = λ changes prepared.
     (λ last known refusal.
     if_no_room (store_of was) last changes c.in-Err.error c.refused.result c.refused.ensures.answer refusal
     (λ r is.
-    list_refused o was c.args.entries.now (placed c.args.batch.pieces.items) c.args.batch.segments changes prepared c.requires.list c.requires.not_full c.requires.counts_on last known r
+    list_refused o was c.args.keep c.args.entries.now (placed c.args.batch.pieces.items) c.args.batch.segments changes prepared c.requires.list c.requires.not_full c.requires.counts_on last known r
     (c.in-Err.ensures.refused r (ap (λ (e : LayError). Err e) is))))
 
 pub returns-in_default-clause-commit : goal.returns-in_default-clause-commit
@@ -67,7 +67,7 @@ returns-in_default-put_commit-clause-commit g c = λ changes prepared.
     } in
     let laid : PutCommit outside crash_states was.keys was.log.head commit ps old new c.put_commit.result =
     subst (λ (l : List Laid). PutCommit outside crash_states was.keys was.log.head commit (placed l) old new c.put_commit.result) c.deref.ensures.value put in
-    fault_call outside crash_states g.met.P.Platform.counts was c.args.entries.now (placed c.args.batch.pieces.items) c.args.batch.segments changes old new prepared c.requires.list c.requires.values c.requires.not_full c.requires.counts_on
+    fault_call outside crash_states g.met.P.Platform.counts was c.args.keep c.args.entries.now (placed c.args.batch.pieces.items) c.args.batch.segments changes old new prepared c.requires.list c.requires.values c.requires.not_full c.requires.counts_on
     commit ps batch.segments c.in-Ok.ensures.next c.requires.at_head c.requires.settled _ c.in_default-put_commit.field-0
     (subst (λ (r : Result Head Failed). PutCommit outside crash_states was.keys was.log.head commit ps old new r) c.in_default-put_commit.is laid)
     (same_but _ was refl refl refl refl c.reserve.ensures.stays)
@@ -96,7 +96,7 @@ returns-clause-commit g c = λ changes prepared.
     } in
     let laid : PutCommit outside crash_states was.keys was.log.head commit ps old new c.put_commit.result =
     subst (λ (l : List Laid). PutCommit outside crash_states was.keys was.log.head commit (placed l) old new c.put_commit.result) c.deref.ensures.value put in
-    done_call outside crash_states g.met.P.Platform.counts was c.args.entries.now (placed c.args.batch.pieces.items) c.args.batch.segments changes old new prepared c.requires.list c.requires.values c.requires.not_full c.requires.counts_on
+    done_call outside crash_states g.met.P.Platform.counts was c.args.keep c.args.entries.now (placed c.args.batch.pieces.items) c.args.batch.segments changes old new prepared c.requires.list c.requires.values c.requires.not_full c.requires.counts_on
     commit ps batch.segments c.in-Ok.ensures.next c.requires.at_head c.requires.settled _ tt c.in-Ok-put_commit.head
     (subst (λ (r : Result Head Failed). PutCommit outside crash_states was.keys was.log.head commit ps old new r) c.in-Ok-put_commit.is laid) refl refl refl refl
     (c.take_in.ensures ∙ taken c.in-Ok-reserve.reserved.count commit.count _ was.log.overlay c.in-Ok-reserve.reserved.entries.items c.args.entries.now

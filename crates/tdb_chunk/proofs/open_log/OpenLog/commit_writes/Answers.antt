@@ -36,7 +36,7 @@ returns-in-Ok-lay_writes-clause-commit g c =
     let changes = writes_of c.args.part c.args.chunks.now in
     let laid = c.in-Ok-lay_writes.ensures.laid w in
     c.commit_entries.ensures.commit changes
-    (subst (λ (entries : List Entry). IsPrepared o was entries (placed c.in-Ok-lay_writes.field-0.batch.pieces.items) c.in-Ok-lay_writes.field-0.batch.segments changes) (sym c.deref.ensures.value) (writes_prepared o was c.args.part c.args.chunks.now w c.requires.limits c.requires.some _ _ _ laid))
+    (subst (λ (entries : List Entry). IsPrepared o was 4 entries (placed c.in-Ok-lay_writes.field-0.batch.pieces.items) c.in-Ok-lay_writes.field-0.batch.segments changes) (sym c.deref.ensures.value) (writes_prepared o was c.args.part c.args.chunks.now w c.requires.limits c.requires.some _ _ _ laid))
 
 pub returns-in-Ok-lay_writes-clause-writable : goal.returns-in-Ok-lay_writes-clause-writable
 returns-in-Ok-lay_writes-clause-writable g c =

@@ -9,7 +9,7 @@ use Rattle.tdb_chunk.specs.Writing.{AreLaid, IsInLimits, write_entry}
 use Rattle.tdb_chunk.specs.declared.batch.LayError.{LayError}
 use Rattle.tdb_chunk.specs.declared.batch.LayError.TheVariants.{NoRoom}
 use Rattle.tdb_chunk.specs.declared.chunk.Chunk.{Chunk}
-use Rattle.tdb_chunk.proofs.Laying.{laid_out_none}
+use Rattle.tdb_chunk.proofs.Placing.{laid_out_none}
 use Rattle.tdb_chunk.proofs.Writing.{laid_more, laid_none, laid_refused, limits_at}
 use Rattle.tdb_chunk.proofs.open_log.OpenLog.lay_each.Goals as goal
 

@@ -19,8 +19,8 @@ returns-in-Ok-clause-commit g c =
     let changes = opening_changes Plain in
     let are : make_entry 1 ∷ make_entry 2 ∷ [] ≡ c.make_part.result ∷ c.make_part-in-Ok.result ∷ [] = cc (c.make_part.ensures, c.make_part-in-Ok.ensures) in
     c.commit_entries.ensures.commit changes
-    (subst (λ (entries : List Entry). IsPrepared o was entries (placed c.new-batch.result.pieces.items) c.new-batch.result.segments changes) are
-    (subst (λ (s : SegmentSpace). IsPrepared o was (make_entry 1 ∷ make_entry 2 ∷ []) (placed c.new-batch.result.pieces.items) s changes) (sym c.new-batch.ensures.segments)
+    (subst (λ (entries : List Entry). IsPrepared o was 4 entries (placed c.new-batch.result.pieces.items) c.new-batch.result.segments changes) are
+    (subst (λ (s : SegmentSpace). IsPrepared o was 4 (make_entry 1 ∷ make_entry 2 ∷ []) (placed c.new-batch.result.pieces.items) s changes) (sym c.new-batch.ensures.segments)
     (makes_prepared o was (placed c.new-batch.result.pieces.items) c.requires.neither)))
 
 pub returns-in-Ok-clause-made : goal.returns-in-Ok-clause-made

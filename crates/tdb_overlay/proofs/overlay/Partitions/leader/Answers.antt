@@ -6,12 +6,12 @@ use Rattle.tdb_overlay.specs.Lookup.{leader_of}
 use Rattle.tdb_overlay.proofs.KeptCovers.{found_in}
 use Rattle.tdb_overlay.proofs.overlay.Partitions.leader.Goals as goal
 
-pub returns-in-Some : goal.returns-in-Some
-returns-in-Some c =
+pub returns-in-Some-clause-found : goal.returns-in-Some-clause-found
+returns-in-Some-clause-found c =
     let there : tree.get nat_cmp c.self.inside.by_number c.args.part.0 ≡ Some c.in-Some.partition.now = sym c.get.ensures.value ∙ ap option_copied c.in-Some.is in
     sym (ap (option_map leader_of) (found_in c.self.inside.by_number c.args.self.now c.args.part.0 (Some c.in-Some.partition.now) c.self.view_is there))
 
-pub returns-in-None : goal.returns-in-None
-returns-in-None c =
+pub returns-in-None-clause-found : goal.returns-in-None-clause-found
+returns-in-None-clause-found c =
     let there : tree.get nat_cmp c.self.inside.by_number c.args.part.0 ≡ None = sym c.get.ensures.value ∙ ap option_copied c.in-None.is in
     sym (ap (option_map leader_of) (found_in c.self.inside.by_number c.args.self.now c.args.part.0 None c.self.view_is there))

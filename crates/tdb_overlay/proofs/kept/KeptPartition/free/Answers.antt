@@ -2,7 +2,7 @@ use Rattle.std.proofs.Common.{◌≡◌, None}
 use Rattle.std.specs.FinMap.{insert}
 use Rattle.tdb_model.specs.Memory.{seen_as}
 use Rattle.tdb_model.proofs.MemoryLemmas.{seen_inserted}
-use Rattle.tdb_overlay.proofs.overlay.KeptPartition.free.Goals as goal
+use Rattle.tdb_overlay.proofs.kept.KeptPartition.free.Goals as goal
 
 pub returns : goal.returns
 returns c =

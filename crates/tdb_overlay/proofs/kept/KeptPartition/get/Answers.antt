@@ -4,7 +4,7 @@ use Rattle.std.specs.Option.{option_map, option_copied}
 use Rattle.std.specs.Ordering.{nat_cmp}
 use Rattle.tdb_model.proofs.MemoryLemmas.{get_seen}
 use Rattle.tdb_overlay.specs.Lookup.{seen_in}
-use Rattle.tdb_overlay.proofs.overlay.KeptPartition.get.Goals as goal
+use Rattle.tdb_overlay.proofs.kept.KeptPartition.get.Goals as goal
 
 pub returns-in-None : goal.returns-in-None
 returns-in-None c =

@@ -1,0 +1,53 @@
+use Rattle.std.proofs.Common.{refl, ◌∙◌}
+use Rattle.tdb_chunk.proofs.StoreReads.{as_seen, has_read, read_no_chunk, read_no_partition, read_stopped}
+use Rattle.tdb_chunk.proofs.store_chunks.StoreChunks.read.Goals as goal
+
+pub returns-then-self : goal.returns-then-self
+returns-then-self g c =
+    let outside = g.P.Platform.outside in
+    let crash_states = g.P.Platform.crash_states in
+    record {
+      read = as_seen outside crash_states c.args.part c.args.rank _ _ _ _ c.self.view_is c.self.view_is
+          (read_stopped outside crash_states g.met.P.Platform.counts g.met.P.Platform.numbered _ c.args.part c.args.rank c.if-self.true);
+    }
+
+pub returns-in_default : goal.returns-in_default
+returns-in_default g c =
+    let outside = g.P.Platform.outside in
+    let crash_states = g.P.Platform.crash_states in
+    record {
+      read = as_seen outside crash_states c.args.part c.args.rank _ _ _ _ c.self.view_is c.self.view_is
+          (read_no_partition outside crash_states g.met.P.Platform.counts g.met.P.Platform.numbered _ c.args.part c.args.rank c.if-self.false
+          c.in_default.ensures);
+    }
+
+pub returns-in_default-get : goal.returns-in_default-get
+returns-in_default-get g c =
+    let outside = g.P.Platform.outside in
+    let crash_states = g.P.Platform.crash_states in
+    record {
+      read = as_seen outside crash_states c.args.part c.args.rank _ _ _ _ c.self.view_is c.self.view_is
+          (read_no_chunk outside crash_states g.met.P.Platform.counts g.met.P.Platform.numbered _ c.args.part c.args.rank c.in-Some.leader
+          c.if-self.false c.in-Some.ensures (λ piece here. c.in_default-get.not-Here piece (c.get.ensures ∙ here)));
+    }
+
+pub returns : goal.returns
+returns g c =
+    let outside = g.P.Platform.outside in
+    let crash_states = g.P.Platform.crash_states in
+    let e = c.read_chunk.ensures in
+    record {
+      read = as_seen outside crash_states c.args.part c.args.rank _ _ _ _ c.self.view_is refl
+          (has_read outside crash_states g.met.P.Platform.counts g.met.P.Platform.numbered _ c.args.part c.args.rank c.in-Some.leader
+          c.in-Here.piece c.if-self.false c.in-Some.ensures c.in-Here.ensures c.read_chunk.new.platform c.read_chunk.result (record {
+            reads = e.reads;
+            bytes = e.bytes;
+            tampered = e.tampered;
+            stands = e.stands;
+            shown = e.shown;
+            misshapen = e.misshapen;
+            fault = e.fault;
+            quiet = e.quiet;
+            late = e.late;
+          }));
+    }

@@ -1,0 +1,70 @@
+//! A store that owns its platform, as a store of chunks.
+ghost use Rattle.tdb_model.specs.HasCommitted.{HasCommitted, IsCommittable};
+ghost use Rattle.tdb_model.specs.HasListed.{HasInfo, HasListed};
+ghost use Rattle.tdb_model.specs.HasRead.{HasRead};
+ghost use Rattle.std.specs.Prelude.{◌≡◌};
+ghost use Rattle.tdb_chunk.specs.CommitFacts.{stops};
+
+use crate::store::Store;
+use std::alloc::{AllocError, Global};
+use tdb_base::{PartId, Rank};
+use tdb_model::{Change, Chunks, CommitError, PartInfo, ReadError};
+use tdb_overlay::Seen;
+use tdb_platform::Platform;
+
+/// Whether a commit's answer stops the store.
+fn is_stop(error: &CommitError) -> bool
+    ensures { result ≡ stops error.now }
+{
+    matches!(error, CommitError::Fault)
+}
+
+impl<P: Platform> Chunks for Store<P> {
+    ghost use Rattle.tdb_chunk.specs.StoreLaws.{store_lawful};
+    ghost use Rattle.tdb_chunk.specs.StoreMeans.{store_means};
+
+    ghost means = { store_means P.outside P.crash_states };
+
+    ghost lawful = { store_lawful P.outside P.crash_states P.counts P.numbered };
+
+    fn read(&mut self, alloc: Global, part: PartId, rank: Rank) -> Result<Vec<u8>, ReadError> {
+        if self.stopped {
+            return Err(ReadError::Stopped);
+        }
+        let Some(leader) = self.chain.leader(part) else {
+            return Err(ReadError::NoPartition);
+        };
+        let Seen::Here(piece) = self.chain.log.overlay.get(part, rank) else {
+            return Err(ReadError::NoChunk);
+        };
+        self.chain
+            .read_chunk(alloc, &mut self.platform, &leader, rank, &piece)
+    }
+
+    // A fault stops it.
+    fn commit(&mut self, alloc: Global, changes: &[Change]) -> Result<(), CommitError> {
+        if self.stopped {
+            return Err(CommitError::Stopped);
+        }
+        let _count = self.chain.count();
+        match self.chain.commit(alloc, &mut self.platform, changes) {
+            Ok(()) => Ok(()),
+            Err(error) => {
+                self.stopped = is_stop(&error);
+                Err(error)
+            }
+        }
+    }
+
+    fn partitions(&self, alloc: Global) -> Result<Vec<PartInfo>, AllocError> {
+        self.chain.log.overlay.infos(alloc)
+    }
+
+    fn info(&self, part: PartId) -> Option<PartInfo> {
+        self.chain.log.overlay.info(part)
+    }
+
+    fn stopped(&self) -> bool {
+        self.stopped
+    }
+}
