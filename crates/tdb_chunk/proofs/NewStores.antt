@@ -1,6 +1,7 @@
 -- What the start of a log on a platform makes of it, whose anchor was told before.
 use Rattle.std.proofs.Common.{◌≡◌, ◌⊎◌, ⊎_elim, ℕ, ◌≤◌, List, [], ◌++◌, Some, Ok, Err, Result, Bool, IsTrue, refl, sym, ◌∙◌, ap, subst}
 use Rattle.std.proofs.lemmas.Bool.{false≢true}
+use Rattle.std.specs.Prelude.{IfErr, OnOk}
 use Rattle.tdb_base.specs.Trace.{IsNumbered}
 use Rattle.tdb_mark.specs.CommitChain.{commit_chain}
 use Rattle.tdb_mark.specs.CommitText.{commit_key_of, commit_of}
@@ -68,3 +69,12 @@ module _ {D : Type 0} (outside : D → Outside) (crash_states : D → CrashState
       → (IsTrue (outside old).tells → (i : List ℕ) (a : Anchor) → now outside crash_states mid i a → a ≡ (outside mid).anchor)
       → IsSettled outside crash_states mid
   told_settled mid same settles tells = settles (subst (λ (t : Bool). IsTrue t) same tells)
+
+-- what holds whatever is answered
+pub whatever_ok : {T E : Type 0} (r : Result T E) {Q : Type 0} → Q → OnOk r Q
+whatever_ok (Ok x) q = q
+whatever_ok (Err e) q = tt
+
+pub whatever_err : {T E : Type 0} (r : Result T E) {Q : E → Type 0} → ((e : E) → Q e) → IfErr r Q
+whatever_err (Ok x) q = tt
+whatever_err (Err e) q = q e
