@@ -10,6 +10,7 @@ pub mod Owners
 pub mod Placing
 pub mod Prepared
 pub mod Rightly
+pub mod NewStores
 pub mod Sealing
 pub mod Shown
 pub mod Standing

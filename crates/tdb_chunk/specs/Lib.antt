@@ -9,6 +9,7 @@ pub mod Preparing
 pub mod Reading
 pub mod Shown
 pub mod Standing
+pub mod Settled
 pub mod Stepping
 pub mod StoreLaws
 pub mod StoreMeans

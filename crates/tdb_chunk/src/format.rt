@@ -151,6 +151,8 @@ impl OpenLog {
         ensures steps { RanStep P.outside P.crash_states (store_under keys suite) [] platform.old platform.new result }
         ensures memory { result ≡ Err Memory → platform.new ≡ platform.old }
         ensures fault { result ≡ Err Fault → Rose (P.outside platform.old).faults (P.outside platform.new).faults }
+        // with Ok there was no fault
+        ensures quiet { OnOk result ((P.outside platform.new).faults ≡ (P.outside platform.old).faults) }
         ensures tells { (P.outside platform.new).tells ≡ (P.outside platform.old).tells }
         ensures honest { (P.outside platform.new).honest ≡ (P.outside platform.old).honest }
         ensures no_fewer { (P.outside platform.old).faults ≤ (P.outside platform.new).faults }

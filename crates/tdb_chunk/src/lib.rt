@@ -19,9 +19,11 @@ mod reading;
 mod records;
 mod store;
 mod store_chunks;
+mod store_format;
 mod text;
 
 pub use chunk::Chunk;
 pub use format::StoreError;
 pub use open_log::OpenLog;
 pub use store::{Room, Store};
+pub use store_format::FormatError;

@@ -1,6 +1,7 @@
 //! A store that owns its platform.
-ghost use Rattle.std.specs.Prelude.{◌≡◌};
+ghost use Rattle.std.specs.Prelude.{◌≡◌, ◌≤◌};
 ghost use Rattle.tdb_seg.specs.SegmentSpace.{bytes_left, free_count};
+ghost use Rattle.tdb_chunk.specs.Standing.{IsReady};
 
 use crate::open_log::OpenLog;
 use std::marker::Model;
@@ -45,7 +46,8 @@ impl<P: Platform> Model for Store<P> {
 impl<P: Platform> Store<P> {
     /// Gives the platform back.
     pub fn close(self) -> P
-        ensures { result ≡ self.platform }
+        ensures platform { result ≡ self.platform }
+        ensures ready { IsReady P.outside P.crash_states self }
     {
         let Store {
             platform,
@@ -64,7 +66,8 @@ impl<P: Platform> Store<P> {
 
     /// The count of the last commit or checkpoint.
     pub fn count(&self) -> u64
-        ensures { result ≡ self.now.log.head.count }
+        ensures count { result ≡ self.now.log.head.count }
+        ensures some { 1 ≤ result }
     {
         self.chain.log.head.count
     }
