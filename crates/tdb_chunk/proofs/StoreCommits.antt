@@ -272,8 +272,8 @@ module _ {P T : Type 0} (outside : P → Outside) (crash_states : P → CrashSta
         → RanOn outside crash_states (store_in old) old.platform surely maybe new.platform)
         → (IsSound old.secret (outside new.platform) → (history : History) (last : StoreState) → StandsAt outside old history last
         → (to : StoreState) × StandsAt outside new (history ++ surely) to)
-        → (new.log.head.count ≡ old.log.head.count → new.log ≡ old.log) → (surely ++ maybe ≡ [] → ⊥) → StoreRan outside crash_states old surely maybe new
-    runs_as surely maybe count base ran stands kept some = record {
+        → (new.log.head.count ≡ old.log.head.count → new.log ≡ old.log) → StoreRan outside crash_states old surely maybe new
+    runs_as surely maybe count base ran stands kept = record {
       same = f.same;
       tells = f.tells;
       honest = f.honest;
@@ -284,7 +284,6 @@ module _ {P T : Type 0} (outside : P → Outside) (crash_states : P → CrashSta
       base = base;
       kept = kept;
       moments = f.moments;
-      reads = λ none. absurd (some none);
       ran = ran;
       stands = stands;
     }
@@ -310,7 +309,7 @@ module _ {P T : Type 0} (outside : P → Outside) (crash_states : P → CrashSta
     is_committed = record {
       runs = runs_as (Ok x) f ((new.log.head.count, changes) ∷ []) []
           (let count = f.count in omega (arith, count)) (let base = f.base in omega (arith, base)) ran_now behind_now
-          (λ same. let count = f.count in absurd (omega (arith, count, same))) (λ none. cc none);
+          (λ same. let count = f.count in absurd (omega (arith, count, same)));
       count = let count = f.count in omega (arith, count);
       state = λ told s at.
           let b = behind_now (sound_now (Ok x) f told) at.0 at.1 at.2 in (
@@ -359,7 +358,7 @@ module _ {P T : Type 0} (outside : P → Outside) (crash_states : P → CrashSta
           (let is = ap (λ (r : Recovered). r.head.base) (f.log_stays is_fault) in omega (arith, is)) begun_now
           (λ sound history from at.
           (from, subst (λ (h : History). StandsAt outside new h from) (sym (append-nil history)) (still sound history from at)))
-          (λ same. f.log_stays is_fault) (λ none. cc none);
+          (λ same. f.log_stays is_fault);
       state = λ told s at. (at.0, at.1, still (sound_now (Err e) f told) at.0 at.1 at.2, at.3);
       leaves = λ told s at left may.
           ⊎_elim inl (λ is. inr (is ∙ ap (λ (t : State). apply_all (old.log.head.count + 1) t changes) at.3))

@@ -130,7 +130,6 @@ module _ {P : Type 0} (outside : P → Outside) (crash_states : P → CrashState
         before = reads.left.before;
         keeps = reads.left.keeps;
       };
-      reads = λ none. reads;
       ran = λ sound history last at. run;
       stands = λ sound history last at. (
         last,

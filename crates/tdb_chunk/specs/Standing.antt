@@ -1,5 +1,5 @@
 -- What a store stands for, and what calls make of that.
-use Rattle.std.specs.Prelude.{◌≡◌, ◌≤◌, [], ◌++◌, IsTrue, false}
+use Rattle.std.specs.Prelude.{◌≡◌, ◌≤◌, ◌++◌, IsTrue, false}
 use Rattle.tdb_base.specs.Trace.{Extends}
 use Rattle.tdb_model.specs.Apply.{History}
 use Rattle.tdb_model.specs.State.{State}
@@ -10,7 +10,6 @@ use Rattle.tdb_overlay.specs.Images.{IsReliable}
 use Rattle.tdb_overlay.specs.Log.{IsLog}
 use Rattle.tdb_overlay.specs.Needed.{needed}
 use Rattle.tdb_overlay.specs.Ran.{RanOn}
-use Rattle.tdb_overlay.specs.Reading.{OnlyReads}
 use Rattle.tdb_overlay.specs.Recovered.{HasCounts, IsRecovered}
 use Rattle.tdb_overlay.specs.SealedOnly.{OnlySealed}
 use Rattle.tdb_overlay.specs.Sound.{IsSound}
@@ -48,8 +47,6 @@ pub record StoreRan {P : Type 0} (outside : P → Outside) (crash_states : P →
   pub kept : new.log.head.count ≡ old.log.head.count → new.log ≡ old.log
   -- time goes on
   pub moments : LeavesOnly outside crash_states old.platform new.platform (λ i a. Unit {0})
-  -- where no commit was begun, the calls only read
-  pub reads : surely ++ maybe ≡ [] → OnlyReads outside crash_states old.platform new.platform
   pub ran : IsSound old.secret (outside new.platform) → (history : History) (last : StoreState) → StandsAt outside old history last
       → RanOn outside crash_states (store_in old) old.platform surely maybe new.platform
   pub stands : IsSound old.secret (outside new.platform) → (history : History) (last : StoreState) → StandsAt outside old history last

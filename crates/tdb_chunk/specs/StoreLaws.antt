@@ -1,5 +1,5 @@
 -- The laws of what a store tells of itself.
-use Rattle.std.proofs.Common.{◌≡◌, ◌∷◌, inl, inr, ⊎_elim, ℕ, ◌≤◌, List, [], ◌++◌, IsTrue, refl, sym, ◌∙◌, ap, subst, append-nil, append_assoc, arith}
+use Rattle.std.proofs.Common.{◌≡◌, inl, inr, ⊎_elim, ℕ, ◌≤◌, List, [], ◌++◌, IsTrue, refl, sym, ◌∙◌, ap, subst, append-nil, append_assoc, arith}
 use Rattle.tdb_base.specs.declared.piece.Damage.{Damage}
 use Rattle.tdb_base.specs.Trace.{Extends, IsNumbered}
 use Rattle.tdb_base.proofs.Tracing.{extends_along, extends_itself}
@@ -17,21 +17,11 @@ use Rattle.tdb_overlay.specs.Ran.{RanOn}
 use Rattle.tdb_overlay.specs.SealedOnly.{OnlySealed}
 use Rattle.tdb_overlay.specs.Sound.{IsSound}
 use Rattle.tdb_overlay.proofs.RanLaws.{ran_after, ran_itself, ran_then, ran_wider, reliable_after, sound_earlier}
-use Rattle.tdb_overlay.proofs.ReadingLaws.{reads_nothing, reads_then}
 use Rattle.tdb_overlay.proofs.SealedPuts.{only_sealed_along, only_sealed_none}
 use Rattle.tdb_chunk.specs.Shown.{Between}
 use Rattle.tdb_chunk.specs.Standing.{StandsAt, StoreGoes, StoreRan}
 use Rattle.tdb_chunk.specs.StoreMeans.{ShowsDamage, Tells, store_means}
 use Rattle.tdb_chunk.specs.StoreView.{StoreView, store_in}
-
--- no commit in both parts is none in either
-no_first : (xs ys : History) → xs ++ ys ≡ [] → xs ≡ []
-no_first [] ys none = refl
-no_first (x ∷ xs) ys none = absurd (cc none)
-
-no_second : (xs ys : History) → xs ++ ys ≡ [] → ys ≡ []
-no_second [] ys none = none
-no_second (x ∷ xs) ys none = absurd (cc none)
 
 module _ {P : Type 0} (outside : P → Outside) (crash_states : P → CrashStates)
     (counts : (p : P) (t u : ℕ) (i : List ℕ) (a : Anchor) → t ≤ u → u ≤ (outside p).clock → crash_states p u i a → crash_states p t i a)
@@ -72,7 +62,6 @@ module _ {P : Type 0} (outside : P → Outside) (crash_states : P → CrashState
     base = omega arith;
     kept = λ _. refl;
     moments = started outside crash_states counts a.platform (λ i x. Unit {0}) (λ i x left. tt);
-    reads = λ none. reads_nothing outside crash_states counts a.platform;
     ran = λ sound history last at. ran_itself outside crash_states counts numbered (store_in a) a.platform;
     stands = λ sound history last at. (last, subst (λ (h : History). StandsAt outside a h last) (sym (append-nil history)) at);
   }
@@ -90,7 +79,6 @@ module _ {P : Type 0} (outside : P → Outside) (crash_states : P → CrashState
     base = first.base;
     kept = first.kept;
     moments = first.moments;
-    reads = λ none. first.reads (append-nil xs ∙ no_first xs maybe none);
     ran = λ sound history last at. ran_wider outside crash_states counts numbered (store_in a) a.platform b.platform xs maybe
         (first.ran sound history last at);
     stands = first.stands;
@@ -133,9 +121,6 @@ module _ {P : Type 0} (outside : P → Outside) (crash_states : P → CrashState
           base = omega (arith, first.base, then.base);
           kept = kept_on first.count then.count first.kept then.kept;
           moments = goes_on_by outside crash_states counts a.platform b.platform c.platform (λ i x. Unit {0}) first.moments then.moments;
-          reads = λ none. reads_then outside crash_states counts a.platform b.platform c.platform
-              (first.reads (append-nil xs ∙ no_first xs (ys ++ maybe) (sym (append_assoc xs ys maybe) ∙ none)))
-              (then.reads (no_second xs (ys ++ maybe) (sym (append_assoc xs ys maybe) ∙ none)));
           ran = λ sound history last at.
               let between = first.stands (mid sound) history last at in
               ran_then outside crash_states counts numbered (store_in a) a.platform b.platform c.platform xs ys maybe
@@ -165,7 +150,6 @@ module _ {P : Type 0} (outside : P → Outside) (crash_states : P → CrashState
           base = omega (arith, first.base, then.base);
           kept = kept_on first.count then.count first.kept then.kept;
           moments = goes_on_by outside crash_states counts a.platform b.platform c.platform (λ i x. Unit {0}) first.moments then.moments;
-          reads = λ none. reads_then outside crash_states counts a.platform b.platform c.platform (first.reads none) (then.reads refl);
           ran = λ sound history last at.
               let between = first.stands (mid sound) history last at in
               ran_after outside crash_states counts numbered (store_in a) a.platform b.platform c.platform xs maybe

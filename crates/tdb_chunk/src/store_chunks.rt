@@ -2,7 +2,8 @@
 ghost use Rattle.tdb_model.specs.HasCommitted.{HasCommitted, IsCommittable};
 ghost use Rattle.tdb_model.specs.HasListed.{HasInfo, HasListed};
 ghost use Rattle.tdb_model.specs.HasRead.{HasRead};
-ghost use Rattle.std.specs.Prelude.{◌≡◌};
+ghost use Rattle.std.specs.Prelude.{◌≡◌, ◌≢◌, IfErr};
+ghost use Rattle.tdb_model.specs.declared.error.CommitError.TheVariants as refusals;
 ghost use Rattle.tdb_chunk.specs.CommitFacts.{stops};
 
 use crate::store::Store;
@@ -41,8 +42,12 @@ impl<P: Platform> Chunks for Store<P> {
             .read_chunk(alloc, &mut self.platform, &leader, rank, &piece)
     }
 
-    // A fault stops it.
-    fn commit(&mut self, alloc: Global, changes: &[Change]) -> Result<(), CommitError> {
+    // A fault stops it. What is refused otherwise leaves all.
+    fn commit(&mut self, alloc: Global, changes: &[Change]) -> Result<(), CommitError>
+        requires changes { IsCommittable changes.now }
+        ensures committed { HasCommitted (store_means P.outside P.crash_states) changes.now self.old self.new result }
+        ensures refused { IfErr result (λ e. e ≢ refusals.Fault → self.new ≡ self.old) }
+    {
         if self.stopped {
             return Err(CommitError::Stopped);
         }
