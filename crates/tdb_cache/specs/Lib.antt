@@ -1,0 +1,2 @@
+pub mod CachedNodes
+pub mod Lending
