@@ -34,11 +34,11 @@ pub new_log : {T E : Type 0} (old new : Outside) (store : Store) (segments : ℕ
     → IsLog new.trace.written store new.anchor [] (formatted_state store segments)
 new_log {T} {E} old new store segments result x is none grown sound =
     let g = subst (λ (r : Result T E). HasGrownBy store old new (UnlessErr (Formatted store segments) r) new.anchor) is grown
-        sound.unforged [] first_state (no_text old store none) in
+    sound.unforged [] first_state (no_text old store none) in
     ⊎_elim
-        (λ made. subst (λ (last : StoreState). IsLog new.trace.written store new.anchor [] last) made.2
-        (subst (λ (history : History). IsLog new.trace.written store new.anchor history g.1) made.0 g.3))
-        (λ failed. absurd (false≢true failed.0)) g.2
+    (λ made. subst (λ (last : StoreState). IsLog new.trace.written store new.anchor [] last) made.2
+    (subst (λ (history : History). IsLog new.trace.written store new.anchor history g.1) made.0 g.3))
+    (λ failed. absurd (false≢true failed.0)) g.2
 
 module _ {D : Type 0} (outside : D → Outside) (crash_states : D → CrashStates) (store : Store) (old mid new : D)
     (reads : OnlyReads outside crash_states old mid) (settled : IsSettled outside crash_states mid) where

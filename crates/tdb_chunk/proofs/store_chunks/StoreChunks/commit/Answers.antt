@@ -22,10 +22,10 @@ returns-in-Ok g c = record {
 
 pub returns-in-Err : goal.returns-in-Err
 returns-in-Err g c = let facts = not_made g.P.Platform.outside g.P.Platform.crash_states c.args.changes.now c.self.inside.chain c.commit.new.self
-      c.self.inside.platform c.commit.new.platform c.self.inside.stopped c.is_stop-self-inside.result c.if-self.false c.self.invariant (omega (arith, c.count-count.ensures, c.count-count.type_inv))
-      c.in-Err.error c.in-Err.ensures.commit (λ isnt. c.is_stop-self-inside.ensures ∙ only_faults_stop c.in-Err.error isnt ∙ sym c.if-self.false)
-      (λ is. c.is_stop-self-inside.ensures ∙ ap stops is) c.in-Err.ensures.right c.in-Err.ensures.many in record {
-  committed = committed_as g.P.Platform.outside g.P.Platform.crash_states g.met.P.Platform.counts g.met.P.Platform.numbered c.args.changes.now
-      _ _ _ c.self.view_is facts;
-  refused = λ isnt. facts.kept isnt ∙ c.self.view_is;
-}
+    c.self.inside.platform c.commit.new.platform c.self.inside.stopped c.is_stop-self-inside.result c.if-self.false c.self.invariant (omega (arith, c.count-count.ensures, c.count-count.type_inv))
+    c.in-Err.error c.in-Err.ensures.commit (λ isnt. c.is_stop-self-inside.ensures ∙ only_faults_stop c.in-Err.error isnt ∙ sym c.if-self.false)
+    (λ is. c.is_stop-self-inside.ensures ∙ ap stops is) c.in-Err.ensures.right c.in-Err.ensures.many in record {
+      committed = committed_as g.P.Platform.outside g.P.Platform.crash_states g.met.P.Platform.counts g.met.P.Platform.numbered c.args.changes.now
+          _ _ _ c.self.view_is facts;
+      refused = λ isnt. facts.kept isnt ∙ c.self.view_is;
+    }
