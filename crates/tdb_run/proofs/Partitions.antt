@@ -1,44 +1,50 @@
 -- Each commit of a run leaves partitions 1 and 2 as a run makes them.
-use Rattle.std.proofs.Common.{◌≡◌, ◌⊎◌, inl, inr, ⊎_elim, ◌==◌, ℕ, Bool, true, false, List, [], ◌∷◌, ◌++◌, Option, Some, None, Result, Ok, Err, refl, sym, ◌∙◌, subst, if◌then◌else◌}
+use Rattle.std.proofs.Common.{◌≡◌, ◌⊎◌, inl, inr, ⊎_elim, ◌==◌, ℕ, Bool, true, false, List, [], ◌∷◌, ◌++◌, Option, Some, None, refl, sym, ◌∙◌, subst, append_assoc, if◌then◌else◌}
 use Rattle.std.specs.FinMap.{get, insert}
-use Rattle.std.specs.Prelude.{nat_le}
 use Rattle.std.specs.Option.{option_map}
-use Rattle.tdb_base.specs.declared.suite.Suite.TheVariants.{Plain}
+use Rattle.std.specs.Prelude.{nat_le}
 use Rattle.tdb_base.specs.Trace.{WrittenPiece}
-use Rattle.tdb_model.specs.declared.change.Change.{Change}
-use Rattle.tdb_model.specs.declared.error.CommitError.{CommitError}
+use Rattle.tdb_base.specs.declared.suite.Suite.{Suite}
 use Rattle.tdb_model.specs.Apply.{History, apply, apply_all, made, replay, state_of, with_chunk, with_partition}
+use Rattle.tdb_model.specs.Limits.{rank_limit}
+use Rattle.tdb_model.specs.Meanings.{Meanings}
 use Rattle.tdb_model.specs.Opening.{opening_changes}
-use Rattle.tdb_model.specs.State.{State, Partition, no_partitions}
+use Rattle.tdb_model.specs.State.{Partition, State, no_partitions}
+use Rattle.tdb_model.specs.declared.change.Change.{Change}
 use Rattle.tdb_model.proofs.MapLemmas.{get_inserted}
+use Rattle.tdb_platform.specs.CrashStates.{CrashStates}
 use Rattle.tdb_platform.specs.Outside.{Anchor, Outside}
-use Rattle.tdb_overlay.specs.Found.{Store, in_trace}
-use Rattle.tdb_overlay.specs.Log.{IsLog}
-use Rattle.tdb_overlay.specs.StoreState.{StoreState, commit_on}
-use Rattle.tdb_overlay.proofs.LogLaws.{log_state}
-use Rattle.tdb_script.specs.LineSpelling.{LineValue, begin, new_note, get as get_line, abort, commit as commit_line, quit}
+use Rattle.tdb_script.specs.LineSpelling.{LineValue, abort, begin, commit as commit_line, get as get_line, new_note, quit}
 use Rattle.tdb_script.specs.NoteText.{stored_note_bytes}
 use Rattle.tdb_script.specs.declared.reply.Reply.{Reply}
-use Rattle.tdb_run.specs.Begin.{HasBoth, HasUserPartitions, IsMadePlain, IsNewStore, IsReopened, Opens}
-use Rattle.tdb_run.specs.Script.{Answer, IsAnswer, IsGetAnswer, ScriptState, Transaction, abort_answer, begin_answer, changes_of, commit_answer, in_transaction, new_answer, tried, write_of}
-use Rattle.tdb_run.specs.Served.{IsOfNext}
-use Rattle.tdb_run.specs.Session.{AnswersBetween, Session, added_by}
+use Rattle.tdb_notes.specs.NotesMachine.{Begins, IsAt, IsTold, Runs, Step}
+use Rattle.tdb_notes.specs.Script.{Answer, IsAnswer, IsAnswerIn, IsAnswerTo, IsBegunBy, IsCommitAnswer, ScriptState, Transaction, abort_answer, begin_answer, changes_of, in_transaction, new_answer, script_at, write_of}
+use Rattle.tdb_notes.specs.declared.notes.Notes.{Notes}
+use Rattle.tdb_serve.specs.Answering.{Session}
+use Rattle.tdb_serve.specs.Replies.{Conversation}
+use Rattle.tdb_serve.specs.Running.{NextRan}
+use Rattle.tdb_serve.specs.declared.script_end.ScriptEnd.{ScriptEnd}
+use Rattle.tdb_serve.specs.declared.script_end.ScriptEnd.TheVariants.{Bye, End, SourceFault, SinkFault, PlatformFault, Memory}
+use Rattle.tdb_stream.specs.SourceContent.{SourceContent}
+use Rattle.tdb_overlay.specs.Found.{Store, in_trace}
+use Rattle.tdb_overlay.specs.Log.{IsLog}
+use Rattle.tdb_overlay.specs.StoreState.{StoreState}
+use Rattle.tdb_overlay.proofs.LogLaws.{log_state}
+use Rattle.tdb_chunk.specs.StoreMeans.{store_means}
+use Rattle.tdb_run.specs.Opens.{HasBoth, HasUserPartitions, IsMade, MayOpen, Opens}
+use Rattle.tdb_run.specs.Ran.{HasNoStore, HasScript, KeepsPartitions, RunRan}
 use Rattle.tdb_run.specs.declared.status.Status.{Status}
 
 -- the changes of a commit of a run: it makes the partitions, or writes notes
-abbrev pub IsOfRun : List Change → Type 0
-IsOfRun changes = (changes ≡ opening_changes Plain) ⊎ ((notes : List (ℕ × List ℕ)) × (changes ≡ changes_of notes))
+abbrev IsOfRun : List Change → Type 0
+IsOfRun changes = ((suite : Suite) × (changes ≡ opening_changes suite)) ⊎ ((notes : List (ℕ × List ℕ)) × (changes ≡ changes_of notes))
 
 -- commits of a run
-abbrev pub AreOfRun : History → Type 0
+abbrev AreOfRun : History → Type 0
 AreOfRun [] = Unit {0}
 AreOfRun (commit ∷ commits) = IsOfRun commit.1 × AreOfRun commits
 
--- what a run commits before its script
-abbrev pub OpensByRun : Opens → Type 0
-OpensByRun opens = (from : StoreState) (begun : History) (opened : StoreState) → opens from begun opened → AreOfRun begun
-
-pub are_both : (first later : History) → AreOfRun first → AreOfRun later → AreOfRun (first ++ later)
+are_both : (first later : History) → AreOfRun first → AreOfRun later → AreOfRun (first ++ later)
 are_both [] later one two = two
 are_both (commit ∷ first) later one two = (one.0, are_both first later one.1 two)
 
@@ -46,31 +52,40 @@ are_first : (first later : History) → AreOfRun (first ++ later) → AreOfRun f
 are_first [] later are = tt
 are_first (commit ∷ first) later are = (are.0, are_first first later are.1)
 
--- a new store, and one that was there
-pub new_by_run : (store : Store) (segments : ℕ) → OpensByRun (IsNewStore store segments)
-new_by_run store segments from begun opened is = subst AreOfRun (sym is.1) (inl refl, tt)
+none_of_run : (commits : History) → commits ≡ [] → AreOfRun commits
+none_of_run commits is = subst AreOfRun (sym is) tt
 
-pub reopened_by_run : (store : Store) → OpensByRun (IsReopened store)
-reopened_by_run store from begun opened is = ⊎_elim (λ both. subst AreOfRun (sym both.1) tt) (λ none. subst AreOfRun (sym none.1.1) (inl refl, tt)) is
+-- what opens a store
+opens_of_run : (suite : Suite) (before after : State) (opening : History) → Opens suite before opening after → AreOfRun opening
+opens_of_run suite before after opening is = ⊎_elim (λ both. none_of_run opening both.1)
+    (λ none. subst AreOfRun (sym none.1.1) (inl (suite, refl), tt)) is
+
+may_open_of_run : (suite : Suite) (before : State) (maybe : History) → MayOpen suite before maybe → AreOfRun maybe
+may_open_of_run suite before maybe is = ⊎_elim (λ none. none_of_run maybe none) (λ some. opens_of_run suite before some.0 maybe some.1) is
 
 -- Making the partitions leaves them so, whatever was there.
-makes_both : (count : ℕ) (state : State) → HasBoth (apply_all count state (opening_changes Plain))
-makes_both count state =
-    let one : State = insert state 1 (made count 1 Plain) in (
-      subst IsMadePlain (sym (get_inserted one 2 (made count 2 Plain) 1 ∙ get_inserted state 1 (made count 1 Plain) 1)) (refl, refl),
-      subst IsMadePlain (sym (get_inserted one 2 (made count 2 Plain) 2)) (refl, refl),
+makes_both : (suite : Suite) (count : ℕ) (state : State) → HasBoth (apply_all count state (opening_changes suite))
+makes_both suite count state =
+    let one : State = insert state 1 (made count 1 suite) in (
+      subst IsMade (sym (get_inserted one 2 (made count 2 suite) 1 ∙ get_inserted state 1 (made count 1 suite) 1)) refl,
+      subst IsMade (sym (get_inserted one 2 (made count 2 suite) 2)) refl,
     )
 
 -- a note that is written
-write_keeps : (state : State) (rank : ℕ) (bytes : List ℕ) (p : Option Partition) → get state 1 ≡ p → HasUserPartitions state → HasUserPartitions (with_partition state 1 (option_map (with_chunk rank bytes) p))
+write_keeps : (state : State) (rank : ℕ) (bytes : List ℕ) (p : Option Partition) → get state 1 ≡ p → HasUserPartitions state
+    → HasUserPartitions (with_partition state 1 (option_map (with_chunk rank bytes) p))
 write_keeps state rank bytes None is has = has
 write_keeps state rank bytes (Some p) is has =
     ⊎_elim
-    (λ both. inl (subst IsMadePlain (sym (get_inserted state 1 (with_chunk rank bytes p) 1)) (subst IsMadePlain is both.0), subst IsMadePlain (sym (get_inserted state 1 (with_chunk rank bytes p) 2)) both.1))
+    (λ both. inl (
+      subst IsMade (sym (get_inserted state 1 (with_chunk rank bytes p) 1)) (subst IsMade is both.0),
+      subst IsMade (sym (get_inserted state 1 (with_chunk rank bytes p) 2)) both.1,
+    ))
     (λ none. absurd (cc (none.0, is)))
     has
 
-notes_keep : (count : ℕ) (notes : List (ℕ × List ℕ)) (state : State) → HasUserPartitions state → HasUserPartitions (apply_all count state (changes_of notes))
+notes_keep : (count : ℕ) (notes : List (ℕ × List ℕ)) (state : State) → HasUserPartitions state
+    → HasUserPartitions (apply_all count state (changes_of notes))
 notes_keep count [] state has = has
 notes_keep count (note ∷ notes) state has =
     notes_keep count notes (apply count state (write_of note)) (write_keeps state note.0 (stored_note_bytes note.1) (get state 1) refl has)
@@ -80,8 +95,10 @@ replay_keeps [] state are has = has
 replay_keeps (c ∷ commits) state are has =
     replay_keeps commits (apply_all c.0 state c.1) are.1
     (⊎_elim
-    (λ opening. subst (λ (changes : List Change). HasUserPartitions (apply_all c.0 state changes)) (sym opening) (inl (makes_both c.0 state)))
-    (λ notes. subst (λ (changes : List Change). HasUserPartitions (apply_all c.0 state changes)) (sym notes.1) (notes_keep c.0 notes.0 state has))
+    (λ opening. subst (λ (changes : List Change). HasUserPartitions (apply_all c.0 state changes)) (sym opening.1)
+    (inl (makes_both opening.0 c.0 state)))
+    (λ notes. subst (λ (changes : List Change). HasUserPartitions (apply_all c.0 state changes)) (sym notes.1)
+    (notes_keep c.0 notes.0 state has))
     are.0)
 
 replay_both : (state : State) (first later : History) → replay state (first ++ later) ≡ replay (replay state first) later
@@ -89,29 +106,22 @@ replay_both state [] later = refl
 replay_both state (c ∷ first) later = replay_both (apply_all c.0 state c.1) first later
 
 -- the state of a log is that of its history
-state_is : (written : List WrittenPiece) (store : Store) (a : Anchor) (history : History) (last : StoreState) → IsLog written store a history last → last.chunks ≡ state_of history
+state_is : (written : List WrittenPiece) (store : Store) (a : Anchor) (history : History) (last : StoreState)
+    → IsLog written store a history last → last.chunks ≡ state_of history
 state_is written store a history last is = log_state (in_trace written) store is.chain history last is.tells
 
--- a log with a first part of commits of a run, behind a log
-pub partitions_kept : (before after : List WrittenPiece) (store : Store) (a b : Anchor) (history added part rest : History) (from to : StoreState) → IsLog before store a history from → AreOfRun added → HasUserPartitions from.chunks
-    → added ≡ part ++ rest → IsLog after store b (history ++ part) to → HasUserPartitions to.chunks
-partitions_kept before after store a b history added part rest from to is are has parts log =
-    subst HasUserPartitions (sym (state_is after store b (history ++ part) to log ∙ replay_both no_partitions history part))
-    (replay_keeps part (state_of history) (are_first part rest (subst AreOfRun parts are)) (subst HasUserPartitions (state_is before store a history from is) has))
+-- commits of a run behind a log keep its partitions
+pub keeps_partitions : (before after : List WrittenPiece) (store : Store) (a : Anchor) (history all : History) (from : StoreState)
+    → IsLog before store a history from → AreOfRun all → KeepsPartitions from after store history all
+keeps_partitions before after store a history all from is are has b front rest to parts log =
+    subst HasUserPartitions (sym (state_is after store b (history ++ front) to log ∙ replay_both no_partitions history front))
+    (replay_keeps front (state_of history) (are_first front rest (subst AreOfRun (sym parts) are))
+    (subst HasUserPartitions (state_is before store a history from is) has))
 
 -- the commits of an answer
 abbrev AddsOfRun : Answer → Type 0
 AddsOfRun given = AreOfRun given.added
 
-tried_of_run : (state : ScriptState) (t : Transaction) (notes : List (ℕ × List ℕ)) (r : Result StoreState CommitError) → AddsOfRun (tried state t (changes_of notes) r)
-tried_of_run state t notes (Ok to) = (inr (notes, refl), tt)
-tried_of_run state t notes (Err refusal) = tt
-
-commit_of_run : (store : Store) (state : ScriptState) (t : Transaction) (notes : List (ℕ × List ℕ)) → AddsOfRun (commit_answer store state t (changes_of notes))
-commit_of_run store state t [] = tt
-commit_of_run store state t (note ∷ notes) = tried_of_run state t (note ∷ notes) (commit_on store state.store (changes_of (note ∷ notes)))
-
--- one of two answers
 either_of_run : (b : Bool) (one two : Answer) → AddsOfRun one → AddsOfRun two → AddsOfRun (if b then one else two)
 either_of_run true one two is_one is_two = is_one
 either_of_run false one two is_one is_two = is_two
@@ -120,36 +130,104 @@ begin_of_run : (state : ScriptState) (number : ℕ) (t : Option Transaction) →
 begin_of_run state number None = tt
 begin_of_run state number (Some t) = either_of_run (t.number == number) _ _ tt tt
 
-inside_of_run : (state : ScriptState) (number : ℕ) (answer : Transaction → Answer) (t : Option Transaction) → ((t : Transaction) → AddsOfRun (answer t)) → AddsOfRun (in_transaction state number answer t)
+inside_of_run : (state : ScriptState) (number : ℕ) (answer : Transaction → Answer) (t : Option Transaction)
+    → ((t : Transaction) → AddsOfRun (answer t)) → AddsOfRun (in_transaction state number answer t)
 inside_of_run state number answer None each = tt
 inside_of_run state number answer (Some t) each = either_of_run (t.number == number) _ _ (each t) tt
 
-get_of_run : (damaged : ℕ → Type 0) (state : ScriptState) (number id : ℕ) (t : Option Transaction) (given : Answer) → IsGetAnswer damaged state number id t given → AddsOfRun given
-get_of_run damaged state number id None given is = subst AddsOfRun (sym is) tt
-get_of_run damaged state number id (Some t) given is = ⊎_elim (λ one. subst AddsOfRun (sym one.1.2) tt) (λ other. subst AddsOfRun (sym other.1) tt) is
+-- an answer of several to a line of the open transaction
+one_of_run : (state : ScriptState) (number : ℕ) (answers : Transaction → Answer → Type 0) (t : Option Transaction) (given : Answer)
+    → ((t : Transaction) → answers t given → AddsOfRun given) → IsAnswerIn state number answers t given → AddsOfRun given
+one_of_run state number answers None given each is = subst AddsOfRun (sym is) tt
+one_of_run state number answers (Some t) given each is = ⊎_elim (λ one. each t one.1) (λ other. subst AddsOfRun (sym other.1) tt) is
 
-answer_of_run : (store : Store) (damaged : ℕ → Type 0) (state : ScriptState) (line : LineValue) (given : Answer) → IsAnswer store damaged state line given → AddsOfRun given
-answer_of_run store damaged state quit given is = subst AddsOfRun (sym is) tt
-answer_of_run store damaged state (begin number) given is = subst AddsOfRun (sym is) (begin_of_run state number state.transaction)
-answer_of_run store damaged state (new_note number text) given is =
-    subst AddsOfRun (sym is) (inside_of_run state number (new_answer state text) state.transaction (λ t. either_of_run (nat_le 262144 state.next_id) _ _ tt tt))
-answer_of_run store damaged state (get_line number id) given is = get_of_run damaged state number id state.transaction given is
-answer_of_run store damaged state (abort number) given is = subst AddsOfRun (sym is) (inside_of_run state number (abort_answer state) state.transaction (λ t. tt))
-answer_of_run store damaged state (commit_line number) given is =
-    subst AddsOfRun (sym is) (inside_of_run state number (λ t. commit_answer store state t (changes_of t.notes)) state.transaction (λ t. commit_of_run store state t t.notes))
+module _ {C : Type 0} (m : Meanings C) where
+  commit_of_run : (old new : C) (state : ScriptState) (t : Transaction) (notes : List (ℕ × List ℕ)) (given : Answer)
+      → IsCommitAnswer m old new state t (changes_of notes) given → AddsOfRun given
+  commit_of_run old new state t [] given is = subst AddsOfRun (sym is) tt
+  commit_of_run old new state t (note ∷ notes) given is =
+      ⊎_elim (λ done. subst AddsOfRun (sym done.2) (inr (note ∷ notes, refl), tt)) (λ refused. subst AddsOfRun (sym refused.2) tt) is
 
-between_of_run : (store : Store) (old new : Outside) (state : ScriptState) (line : List ℕ) (given : Answer) → AnswersBetween store old new state line given → AddsOfRun given
-between_of_run store old new state line given is = ⊎_elim (λ some. answer_of_run store _ state some.0 given some.2.0) (λ none. subst AddsOfRun (sym none.1) tt) is
+  answer_of_run : (old new : C) (state : ScriptState) (line : LineValue) (given : Answer) → IsAnswer m old new state line given
+      → AddsOfRun given
+  answer_of_run old new state quit given is = subst AddsOfRun (sym is) tt
+  answer_of_run old new state (begin number) given is = subst AddsOfRun (sym is) (begin_of_run state number state.transaction)
+  answer_of_run old new state (new_note number text) given is =
+      subst AddsOfRun (sym is) (inside_of_run state number (new_answer state text) state.transaction
+      (λ t. either_of_run (nat_le rank_limit state.next_id) _ _ tt tt))
+  answer_of_run old new state (get_line number id) given is =
+      one_of_run state number _ state.transaction given (λ t one. subst AddsOfRun (sym one.2) tt) is
+  answer_of_run old new state (abort number) given is =
+      subst AddsOfRun (sym is) (inside_of_run state number (abort_answer state) state.transaction (λ t. tt))
+  answer_of_run old new state (commit_line number) given is =
+      one_of_run state number _ state.transaction given (λ t one. commit_of_run old new state t t.notes given one) is
 
--- the commits of a session, and what may stand behind them
-pub session_of_run : (store : Store) (begun : Outside) (history : History) (first : ScriptState) (lines : List (List ℕ)) (answers : List Answer) (now : Outside) (last : ScriptState)
-    → Session store begun history first lines answers now last → AreOfRun (added_by answers)
-session_of_run store begun history first [] [] now last is = tt
-session_of_run store begun history first (line ∷ lines) (given ∷ answers) now last is =
-    are_both given.added (added_by answers) (between_of_run store begun is.0 first line given is.2) (session_of_run store is.0 (history ++ given.added) given.next lines answers now last is.4)
-session_of_run store begun history first [] (given ∷ answers) now last is = absurd is
-session_of_run store begun history first (line ∷ lines) [] now last is = absurd is
+  line_of_run : (old new : C) (state : ScriptState) (bytes : List ℕ) (given : Answer) → IsAnswerTo m old new state bytes given
+      → AddsOfRun given
+  line_of_run old new state bytes given is =
+      ⊎_elim (λ some. answer_of_run old new state some.0 given some.2) (λ none. subst AddsOfRun (sym none.1) tt) is
 
-pub next_of_run : (store : Store) (old new : Outside) (status : Status) (last : ScriptState) (unanswered : List ℕ) (next : Option Reply) (maybe : History) → IsOfNext store old new status last unanswered next maybe → AreOfRun maybe
-next_of_run store old new status last unanswered next maybe is =
-    ⊎_elim (λ none. subst AreOfRun (sym none.1) tt) (λ some. subst AreOfRun (sym some.6) (between_of_run store old new last some.0 some.2 some.5)) is
+  begun_of_run : (old : C) (state : ScriptState) (line : LineValue) (maybe : History) → IsBegunBy m old state line maybe → AreOfRun maybe
+  begun_of_run old state (commit_line number) maybe is = subst AreOfRun (sym is.3.2) (inr (is.0.notes, refl), tt)
+  begun_of_run old state quit maybe is = absurd is
+  begun_of_run old state (begin number) maybe is = absurd is
+  begun_of_run old state (new_note number text) maybe is = absurd is
+  begun_of_run old state (get_line number id) maybe is = absurd is
+  begun_of_run old state (abort number) maybe is = absurd is
+
+  -- the commits of a session
+  session_of_run : (begun : Notes C) (first : ScriptState) (lines : List (List ℕ)) (replies : List Reply) (added : History)
+      (now : Notes C) (last : ScriptState) → Session (Step m) (Runs m) begun first lines replies added now last → AreOfRun added
+  session_of_run begun first [] [] added now last is = none_of_run added is.2
+  session_of_run begun first (line ∷ lines) (reply ∷ replies) added now last is =
+      subst AreOfRun (sym is.7)
+      (are_both is.2 is.3 (line_of_run begun.store is.0.store first line _ is.4)
+      (session_of_run is.0 is.1 lines replies is.3 now last is.6))
+  session_of_run begun first [] (reply ∷ replies) added now last is = absurd is
+  session_of_run begun first (line ∷ lines) [] added now last is = absurd is
+
+  -- and what may stand behind them
+  abbrev Next : {came gone : SourceContent} → Conversation came gone → Notes C → Notes C → ScriptState → History → History → ScriptEnd
+      → Type 0
+  Next c mid new last own maybe end = NextRan (IsTold m) (IsAt m) (Step m) (Begins m) (Runs m) c mid new last own maybe end
+
+  module _ {came gone : SourceContent} (c : Conversation came gone) (mid new : Notes C) (last : ScriptState) (own maybe : History) where
+    own_of_run : Next c mid new last own maybe SinkFault → AreOfRun (own ++ maybe)
+    own_of_run is = are_both own maybe (line_of_run mid.store new.store last is.2.2.line _ is.2.2.holds.1) (none_of_run maybe is.0)
+
+    maybe_of_run : Next c mid new last own maybe PlatformFault → AreOfRun (own ++ maybe)
+    maybe_of_run is = are_both own maybe (none_of_run own is.0)
+        (⊎_elim (λ none. none_of_run maybe none) (λ some. begun_of_run mid.store last some.holds.0 maybe some.holds.2) is.2)
+
+    nothing_of_run : Next c mid new last own maybe End → AreOfRun (own ++ maybe)
+    nothing_of_run is = are_both own maybe (none_of_run own is.1) (none_of_run maybe is.2)
+
+    next_of_run : (end : ScriptEnd) → Next c mid new last own maybe end → AreOfRun (own ++ maybe)
+    next_of_run Bye is = nothing_of_run is
+    next_of_run End is = nothing_of_run is
+    next_of_run SourceFault is = nothing_of_run is
+    next_of_run SinkFault is = own_of_run is
+    next_of_run PlatformFault is = maybe_of_run is
+    next_of_run Memory is = ⊎_elim nothing_of_run (λ some. ⊎_elim maybe_of_run own_of_run some) is
+
+-- all commits of a run
+pub run_of_run : {D : Type 0} → (outside : D → Outside) (crash_states : D → CrashStates) (store : Store) {came gone : SourceContent}
+    (c : Conversation came gone) (old new : D) (from : StoreState) (status : Status)
+    (r : RunRan outside crash_states store c old new from status) → AreOfRun (r.opening ++ ((r.added ++ r.own) ++ r.maybe))
+run_of_run outside crash_states store c old new from status r =
+    ⊎_elim
+    (λ some. are_both r.opening ((r.added ++ r.own) ++ r.maybe) (opens_of_run store.suite from.chunks some.0 r.opening some.1)
+    (subst AreOfRun (sym (append_assoc r.added r.own r.maybe))
+    (⊎_elim
+    (λ script. are_both r.added (r.own ++ r.maybe)
+    (session_of_run (store_means outside crash_states) script.first (script_at some.0) c.lines c.replies r.added script.mid script.final
+    script.session)
+    (next_of_run (store_means outside crash_states) c script.mid script.last script.final r.own r.maybe script.end script.next))
+    (λ made. are_both r.added (r.own ++ r.maybe) (none_of_run r.added made.1.no_more.0)
+    (are_both r.own r.maybe (none_of_run r.own made.1.no_more.1) (none_of_run r.maybe made.1.no_more.2)))
+    some.2)))
+    (λ none. are_both r.opening ((r.added ++ r.own) ++ r.maybe) (none_of_run r.opening none.no_more.0)
+    (are_both (r.added ++ r.own) r.maybe
+    (are_both r.added r.own (none_of_run r.added none.no_more.1) (none_of_run r.own none.no_more.2))
+    (may_open_of_run store.suite from.chunks r.maybe none.may_open)))
+    r.course

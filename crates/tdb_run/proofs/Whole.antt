@@ -1,66 +1,186 @@
--- What a log needs stays where it was written, over a new store and a script. It depends on the store's secret alone.
-use Rattle.std.proofs.Common.{◌≡◌, ◌≢◌, inl, inr, ℕ, List, [], Some, IsTrue, refl, sym, ◌∙◌, subst, append-nil, arith}
-use Rattle.std.proofs.lemmas.Bool.Decides.{eqb_tells}
-use Rattle.tdb_base.specs.declared.piece.Piece.{Piece}
-use Rattle.tdb_base.specs.Trace.{WrittenPiece}
-use Rattle.tdb_mark.specs.CommitChain.{commit_chain}
-use Rattle.tdb_mark.specs.CommitText.{commit_key_of, commit_of}
-use Rattle.tdb_mark.specs.Unforged.{IsUnforged}
+-- What the opening of a store and its script come to together.
+use Rattle.std.proofs.Common.{◌≡◌, ◌⊎◌, inl, inr, ⊎_elim, ℕ, ◌≤◌, List, [], ◌++◌, IsTrue, Bool, refl, sym, ◌∙◌, ap, subst, append-nil, append_assoc, arith}
+use Rattle.tdb_base.specs.Trace.{IsNumbered}
+use Rattle.tdb_base.proofs.Tracing.{extends_along}
+use Rattle.tdb_model.specs.Apply.{History}
+use Rattle.tdb_model.specs.State.{State}
+use Rattle.tdb_platform.specs.CrashStates.{CrashStates, LeavesOnly}
 use Rattle.tdb_platform.specs.Outside.{Anchor, Outside}
-use Rattle.tdb_overlay.specs.Found.{Store, in_trace}
-use Rattle.tdb_overlay.specs.Intact.{IsIntact, KeepsIntact}
-use Rattle.tdb_overlay.specs.Log.{IsLog}
-use Rattle.tdb_overlay.specs.Required.{IsRequired, RestsOn}
-use Rattle.tdb_overlay.specs.SealedOnly.{OnlySealed}
-use Rattle.tdb_overlay.specs.StoreState.{first_state}
-use Rattle.tdb_chunk.proofs.Placing.{sealed_along, sealed_none}
-use Rattle.tdb_run.specs.Served.{IsUnwritten}
+use Rattle.tdb_serve.specs.Replies.{Conversation}
+use Rattle.tdb_serve.proofs.Conversing.{no_conversation}
+use Rattle.tdb_stream.specs.SourceContent.{SourceContent}
+use Rattle.tdb_overlay.specs.Found.{Store}
+use Rattle.tdb_overlay.specs.Ran.{RanOn}
+use Rattle.tdb_overlay.specs.Reading.{OnlyReads}
+use Rattle.tdb_overlay.specs.Sound.{IsSound}
+use Rattle.tdb_overlay.specs.StoreState.{StoreState}
+use Rattle.tdb_overlay.proofs.RanLaws.{ran_then, sound_earlier}
+use Rattle.tdb_overlay.proofs.SealedPuts.{only_sealed_along}
+use Rattle.tdb_recover.specs.Premises.{Premises}
+use Rattle.tdb_chunk.specs.Settled.{RanSettled}
+use Rattle.tdb_chunk.specs.StoreView.{StoreView, store_in}
+use Rattle.tdb_run.specs.Calls.{Calls}
+use Rattle.tdb_run.specs.Ends.{status_of_stop}
+use Rattle.tdb_run.specs.Opened.{HasNotOpened, HasOpened, IsWhyNot, OverLogs}
+use Rattle.tdb_run.specs.Ran.{HasScript, RunRan, StopsOf}
+use Rattle.tdb_run.specs.Scripted.{RanScript, ScriptOver}
+use Rattle.tdb_run.specs.declared.opening.NotOpened.{NotOpened}
+use Rattle.tdb_run.specs.declared.status.Status.{Status}
+use Rattle.tdb_run.specs.declared.status.Status.TheVariants.{Done}
+use Rattle.tdb_run.specs.declared.status.Success.TheVariants.{Formatted}
+use Rattle.tdb_run.proofs.Leaving.{leaves}
 
--- an anchor of count 0 has a log of no text
-pub log_at_zero : (written : List WrittenPiece) (store : Store) (a : Anchor) → a.0 ≡ 0 → IsLog written store a [] first_state
-log_at_zero written store a zero = record {
-  chain = [];
-  ends = subst (λ (n : ℕ). commit_chain written (commit_of (commit_key_of store.secret)) n a.1 ≡ Some []) (sym zero) refl;
-  tells = (refl, refl);
-}
+-- what a run made of one log, and what a stop leaves of that
+pub record Over {D : Type 0} (outside : D → Outside) (crash_states : D → CrashStates) (store : Store) {came gone : SourceContent}
+    (c : Conversation came gone) (old new : D) (history : History) (from : StoreState) (status : Status) : Type 0 where
+  pub ran : RunRan outside crash_states store c old new from status
+  pub stops : StopsOf outside crash_states store c old new history from status ran
 
-module _ (s t : Store) (same : s.secret ≡ t.secret) where
-  required_of : (written : List WrittenPiece) (a : Anchor) (piece : Piece) → IsRequired written s a piece → IsRequired written t a piece
-  required_of written a piece r = record {
-    chain = r.chain;
-    ends = subst (λ (k : List ℕ). commit_chain written (commit_of (commit_key_of k)) a.0 a.1 ≡ Some r.chain) same r.ends;
-    text = r.text;
-    earlier = r.earlier;
-    later = r.later;
-    in_chain = r.in_chain;
-    since_base = r.since_base;
-    rests = subst (λ (k : List ℕ). RestsOn (in_trace written) k r.text piece) same r.rests;
+module _ {D : Type 0} (outside : D → Outside) (crash_states : D → CrashStates)
+    (counts : (p : D) (t u : ℕ) (i : List ℕ) (a : Anchor) → t ≤ u → u ≤ (outside p).clock → crash_states p u i a → crash_states p t i a)
+    (numbered : (p : D) → IsTrue (outside p).tells → IsNumbered (outside p).trace) where
+  unit_moments : (a b c : D) → LeavesOnly outside crash_states a b (λ i x. Unit {0})
+      → LeavesOnly outside crash_states b c (λ i x. Unit {0})
+      → LeavesOnly outside crash_states a c (λ i x. Unit {0})
+  unit_moments a b c first then = record {
+    later = omega (arith, first.later, then.later);
+    each = λ i x left. tt;
+    before = λ t i x within left. ⊎_elim
+        (λ earlier. ⊎_elim (λ at_start. inl at_start) (λ after. inr (then.keeps (outside a).clock i x first.later after))
+        (first.before t i x within earlier))
+        (λ since. inr (counts c (outside a).clock (outside b).clock i x first.later then.later since))
+        (then.before t i x (omega (arith, within, first.later)) left);
+    keeps = λ t i x within left. then.keeps t i x (omega (arith, within, first.later)) (first.keeps t i x within left);
   }
 
-pub intact_of : (s t : Store) → s.secret ≡ t.secret → (written : List WrittenPiece) (a : Anchor) → IsIntact written s a → IsIntact written t a
-intact_of s t same written a is piece needs = is piece (required_of t s (sym same) written a piece needs)
+  -- calls, and then others
+  pub calls_along : (secret : List ℕ) (a b c : D) → Calls outside crash_states secret a b → Calls outside crash_states secret b c
+      → Calls outside crash_states secret a c
+  calls_along secret a b c first then = record {
+    tells = then.tells ∙ first.tells;
+    honest = then.honest ∙ first.honest;
+    grows = λ tells. extends_along (outside a).trace (outside b).trace (outside c).trace (first.grows tells)
+        (then.grows (subst (λ (t : Bool). IsTrue t) (sym first.tells) tells));
+    sealed = only_sealed_along secret (outside a) (outside b) (outside c) first.tells first.sealed then.sealed;
+    faults = omega (arith, first.faults, then.faults);
+    moments = unit_moments a b c first.moments then.moments;
+  }
 
--- nothing was written
-pub intact_unwritten : (store : Store) (old new : Outside) → IsUnwritten old new → IsIntact old.trace.written store old.anchor → IsIntact new.trace.written store new.anchor
-intact_unwritten store old new same is =
-    subst (λ (a : Anchor). IsIntact new.trace.written store a) (sym same.anchor) (subst (λ (ws : List WrittenPiece). IsIntact ws store old.anchor) (sym same.written) is)
+  -- what holds under the premises at the end holds under those that stood earlier
+  premises_before : (secret : List ℕ) (store : Store) (history : History) (from : StoreState) (a b c : D)
+      → Calls outside crash_states secret a b → Calls outside crash_states secret b c
+      → Premises (outside a) (outside c) secret store history from → Premises (outside a) (outside b) secret store history from
+  premises_before secret store history from a b c first then p = record {
+    tells = p.tells;
+    keys = p.keys;
+    unforged = (sound_earlier outside crash_states counts numbered store b c then.tells then.grows
+        (record {
+          tells = subst (λ (t : Bool). IsTrue t) (sym (then.tells ∙ first.tells)) p.tells;
+          unforged = p.unforged;
+        })).unforged;
+    log = p.log;
+  }
 
--- A new store is made at count 0 alone, where no log needs anything.
-pub new_store_intact : (store made : Store) (old new : Outside) → store.secret ≡ made.secret → (old.anchor.0 ≢ 0 → IsUnwritten old new) → KeepsIntact made old new → KeepsIntact store old new
-new_store_intact store made old new same untouched keeps unforged before from is intact = elim (eqb_tells old.anchor.0 0) [
-  | inl zero ↦
-      intact_of made store (sym same) new.trace.written new.anchor
-      (keeps (subst (λ (k : List ℕ). IsUnforged new.trace (commit_of (commit_key_of k))) same unforged) [] first_state (log_at_zero old.trace.written made old.anchor zero.1)
-      (intact_of store made same old.trace.written old.anchor intact))
-  | inr more ↦ intact_unwritten store old new (untouched more.1) intact
-]
+  sound_at_end : (secret : List ℕ) (store : Store) (history : History) (from : StoreState) (a c : D)
+      → (outside c).tells ≡ (outside a).tells → Premises (outside a) (outside c) secret store history from
+      → IsSound store.secret (outside c)
+  sound_at_end secret store history from a c tells p = record {
+    tells = subst (λ (t : Bool). IsTrue t) (sym tells) p.tells;
+    unforged = p.unforged;
+  }
 
-pub only_sealed_along : (secret : List ℕ) (old mid new : Outside) → mid.tells ≡ old.tells → OnlySealed secret old mid → OnlySealed secret mid new → OnlySealed secret old new
-only_sealed_along secret old mid new same first second told = sealed_along secret old.trace mid.trace new.trace (first told) (second (subst IsTrue (sym same) told))
+  -- the rest of a run behind its opening
+  then_on : (store : Store) (old mid new : D) (opening more maybe : History) → RanSettled outside crash_states store old opening [] mid
+      → RanOn outside crash_states store mid more maybe new → RanSettled outside crash_states store old (opening ++ more) maybe new
+  then_on store old mid new opening more maybe first rest = record {
+    mid = first.mid;
+    reads = first.reads;
+    settled = first.settled;
+    rest = ran_then outside crash_states counts numbered store first.mid mid new opening more maybe first.rest rest;
+  }
 
-pub only_sealed_itself : (secret : List ℕ) (outside : Outside) → OnlySealed secret outside outside
-only_sealed_itself secret outside told = sealed_none secret outside.trace
+  -- A store was opened, and its script answered.
+  pub over_script : (secret : List ℕ) (store : Store) (history : History) (from : StoreState) (old new : D) (s : StoreView D)
+      (came gone : SourceContent) (c : Conversation came gone) (status : Status)
+      → Calls outside crash_states secret old s.platform → Calls outside crash_states secret s.platform new
+      → Premises (outside old) (outside new) secret store history from
+      → (Premises (outside old) (outside s.platform) secret store history from
+      → HasOpened outside crash_states store old history from s)
+      → RanScript outside crash_states c status s new
+      → Over outside crash_states store c old new history from status
+  over_script secret store history from old new s came gone c status first then p opened script =
+      let sound : IsSound store.secret (outside new) =
+      sound_at_end secret store history from old new (then.tells ∙ first.tells) p in
+      let h = opened (premises_before secret store history from old s.platform new first then p) in
+      let part = script (history ++ h.opening) h.last h.stands
+      (subst (λ (one : Store). IsSound one.secret (outside new)) (sym h.same) sound) in
+      let rest : RanOn outside crash_states store s.platform (part.added ++ part.own) part.maybe new =
+      subst (λ (one : Store). RanOn outside crash_states one s.platform (part.added ++ part.own) part.maybe new) h.same part.ran in
+      let ran : RanSettled outside crash_states store old (h.opening ++ (part.added ++ part.own)) part.maybe new =
+      then_on store old s.platform new h.opening (part.added ++ part.own) part.maybe h.ran rest in
+      record {
+        ran = record {
+          opening = h.opening;
+          added = part.added;
+          own = part.own;
+          maybe = part.maybe;
+          ran = inl ran;
+          course = inl (
+            h.state,
+            h.opens,
+            inl (subst (λ (state : State). HasScript outside crash_states c status state part.added part.own
+                part.maybe new) h.chunks part.script),
+          );
+        };
+        stops = inl (leaves outside crash_states counts numbered store old new history (h.opening ++ (part.added ++ part.own)) part.maybe
+            from sound p.log ran);
+      }
 
--- calls that write nothing
-pub only_sealed_reads : (secret : List ℕ) (old new : Outside) → (IsTrue old.tells → new.trace.written ≡ old.trace.written) → OnlySealed secret old new
-only_sealed_reads secret old new same told = record { more = []; written = same told ∙ sym (append-nil old.trace.written); each = λ k d within. absurd (omega (arith, within)) }
+  -- A store was made, and no script answered.
+  pub over_new_store : (secret : List ℕ) (store : Store) (history : History) (from : StoreState) (old : D) (s : StoreView D)
+      (came : SourceContent) (segments : ℕ) → (outside s.platform).tells ≡ (outside old).tells
+      → Premises (outside old) (outside s.platform) secret store history from
+      → HasOpened outside crash_states store old history from s
+      → Over outside crash_states store (no_conversation came) old s.platform history from (Done (Formatted store.suite segments))
+  over_new_store secret store history from old s came segments tells p h =
+      let sound : IsSound store.secret (outside s.platform) = sound_at_end secret store history from old s.platform tells p in
+      let ran : RanSettled outside crash_states store old (h.opening ++ []) [] s.platform =
+      subst (λ (all : History). RanSettled outside crash_states store old all [] s.platform) (sym (append-nil h.opening)) h.ran in
+      record {
+        ran = record {
+          opening = h.opening;
+          added = [];
+          own = [];
+          maybe = [];
+          ran = inl ran;
+          course = inl (h.state, h.opens, inr (segments, record { ends_so = refl; untaken = refl; no_more = (refl, refl, refl) }));
+        };
+        stops = inl (leaves outside crash_states counts numbered store old s.platform history (h.opening ++ []) [] from sound p.log ran);
+      }
+
+  -- No store was opened.
+  pub over_no_store : (secret : List ℕ) (store : Store) (history : History) (from : StoreState) (old new : D) (came : SourceContent)
+      (why : NotOpened) → (outside new).tells ≡ (outside old).tells → Premises (outside old) (outside new) secret store history from
+      → HasNotOpened outside crash_states store old new from → IsWhyNot store (outside old) (outside new) from why
+      → Over outside crash_states store (no_conversation came) old new history from (status_of_stop why)
+  over_no_store secret store history from old new came why tells p h is_why = record {
+    ran = record {
+      opening = [];
+      added = [];
+      own = [];
+      maybe = h.maybe;
+      ran = h.ran;
+      course = inr (record {
+        why = why;
+        ends_so = refl;
+        is_why = is_why;
+        untaken = refl;
+        no_more = (refl, refl, refl);
+        may_open = h.may_open;
+      });
+    };
+    stops = ⊎_elim
+        (λ ran. inl (leaves outside crash_states counts numbered store old new history [] h.maybe from
+        (sound_at_end secret store history from old new tells p) p.log ran))
+        (λ read. inr read) h.ran;
+  }

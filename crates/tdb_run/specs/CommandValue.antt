@@ -6,6 +6,6 @@ use Rattle.tdb_run.specs.declared.command.Command.TheVariants.{Start, Format, Ru
 
 -- these words are this command
 abbrev pub IsCommandOf : List (List ℕ) → Command → Type 0
-IsCommandOf words (Start segments) = IsStart words segments
-IsCommandOf words (Format segments) = IsFormat words segments
+IsCommandOf words (Start suite segments) = IsStart words suite segments
+IsCommandOf words (Format suite segments) = IsFormat words suite segments
 IsCommandOf words Run = IsRun words

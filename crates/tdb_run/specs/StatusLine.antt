@@ -1,5 +1,7 @@
 -- What a run ends with: its last line, and the program's exit status.
 use Rattle.std.specs.Prelude.{ℕ, Bool, ◌+◌, ◌/◌, ◌%◌, List, [], ◌∷◌, ◌++◌, codes, decimal, flat_map, nat_lt, true, false, if◌then◌else◌}
+use Rattle.tdb_base.specs.declared.suite.Suite.{Suite}
+use Rattle.tdb_base.specs.SuiteNumber.{suite_word}
 use Rattle.tdb_run.specs.declared.status.Finding.{Finding}
 use Rattle.tdb_run.specs.declared.status.Finding.TheVariants.{Tampered, Form}
 use Rattle.tdb_run.specs.declared.status.Refusal.{Refusal}
@@ -40,13 +42,13 @@ finding_text (Tampered damage) = codes "tampered " ++ decimal damage.place.0 ++ 
 finding_text (Form place) = codes "form " ++ decimal place.0 ++ 10 ∷ []
 
 -- what `format` puts when it is done
-abbrev pub formatted_text : ℕ → List ℕ
-formatted_text segments = codes "formatted plain " ++ decimal segments ++ 10 ∷ []
+abbrev pub formatted_text : Suite → ℕ → List ℕ
+formatted_text suite segments = codes "formatted " ++ suite_word suite ++ codes " " ++ decimal segments ++ 10 ∷ []
 
 -- with its line feed
 abbrev pub status_line : Status → List ℕ
 status_line (Done Script) = []
-status_line (Done (Formatted segments)) = formatted_text segments
+status_line (Done (Formatted suite segments)) = formatted_text suite segments
 status_line Usage = codes "usage" ++ 10 ∷ []
 status_line (AnchorCount true) = codes "already formatted" ++ 10 ∷ []
 status_line (AnchorCount false) = codes "unformatted" ++ 10 ∷ []
@@ -61,7 +63,7 @@ status_line (Refused refusal) = refusal_text refusal
 -- A line that tells numbers or digests is built in memory. Every other is at hand.
 abbrev pub is_built : Status → Bool
 is_built (Done Script) = false
-is_built (Done (Formatted segments)) = true
+is_built (Done (Formatted suite segments)) = true
 is_built Usage = false
 is_built (AnchorCount formatted) = false
 is_built (Damaged finding) = true

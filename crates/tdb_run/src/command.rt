@@ -1,5 +1,7 @@
 //! The words of a command.
 ghost use Rattle.std.specs.Prelude.{◌≡◌, ◌≤◌, ◌<◌, ◌^◌, [], ◌∷◌, ℕ, IfSome, IfNone, codes, decimal};
+ghost use Rattle.tdb_base.specs.declared.suite.Suite.{Suite};
+ghost use Rattle.tdb_base.specs.SuiteNumber.{suite_word};
 ghost use Rattle.tdb_run.specs.Command.{IsNoCommand, IsSize, texts};
 ghost use Rattle.tdb_run.specs.CommandValue.{IsCommandOf};
 
@@ -13,10 +15,10 @@ const MOST_SEGMENTS: u64 = 4096;
 /// A command of the program.
 #[derive(Clone, Copy, Debug, PartialEq, Eq)]
 pub enum Command {
-    /// `start plain SEGMENTS` makes a store of so many segments and answers a script.
-    Start(u32),
-    /// `format plain SEGMENTS` makes a store of so many segments.
-    Format(u32),
+    /// `start SUITE SEGMENTS` makes a store of so many segments in that suite and answers a script.
+    Start(Suite, u32),
+    /// `format SUITE SEGMENTS` makes a store of so many segments in that suite.
+    Format(Suite, u32),
     /// `run` answers a script over a store that is there.
     Run,
 }
@@ -52,17 +54,32 @@ fn read_new_store(command: &[u8], suite: &[u8], segments: &[u8]) -> Option<Comma
     ensures found { IfSome result (IsCommandOf (command.now ∷ suite.now ∷ segments.now ∷ [])) }
     ensures none { IfNone result (IsNoCommand (command.now ∷ suite.now ∷ segments.now ∷ [])) }
 {
-    if suite != Suite::Plain.word().as_bytes() {
-        return None;
-    }
+    let suite = read_suite(suite)?;
     let segments = read_size(segments)?;
     if command == b"start".as_slice() {
-        Some(Command::Start(segments))
+        Some(Command::Start(suite, segments))
     } else if command == b"format".as_slice() {
-        Some(Command::Format(segments))
+        Some(Command::Format(suite, segments))
     } else {
         None
     }
+}
+
+// Reads a word as a suite.
+fn read_suite(word: &[u8]) -> Option<Suite>
+    ensures found { IfSome result (λ suite. word.now ≡ suite_word suite) }
+    ensures none { IfNone result ((suite : Suite) → word.now ≡ suite_word suite → ⊥) }
+{
+    if word == Suite::Plain.word().as_bytes() {
+        return Some(Suite::Plain);
+    }
+    if word == Suite::Aes128.word().as_bytes() {
+        return Some(Suite::Aes128);
+    }
+    if word == Suite::Aes256.word().as_bytes() {
+        return Some(Suite::Aes256);
+    }
+    None
 }
 
 // Reads a word as a number of segments that a store may have.

@@ -1,31 +1,38 @@
 //! One run: a command from its words to its last line.
-ghost use Rattle.std.specs.Prelude.{◌≡◌, ◌≢◌, ◌⊎◌, ◌↔◌, ◌≤◌, [], ℕ, IsTrue, None, false, true};
-ghost use Rattle.tdb_chunk.specs.Formatting.{plain_store};
-ghost use Rattle.tdb_overlay.specs.Found.{Store};
-ghost use Rattle.tdb_overlay.specs.Growth.{IsSettled};
-ghost use Rattle.tdb_overlay.specs.Intact.{StaysIntact};
-ghost use Rattle.tdb_overlay.specs.Reading.{OnlyReads};
+ghost use Rattle.std.specs.Prelude.{◌≡◌, ◌≢◌, ◌⊎◌, ◌≤◌, ℕ, List, IsTrue, true, false};
+ghost use Rattle.tdb_base.specs.declared.suite.Suite.{Suite};
 ghost use Rattle.tdb_overlay.specs.SealedOnly.{OnlySealed};
-ghost use Rattle.tdb_run.specs.Command.{IsFormat, IsNoCommand, IsOfNewStore, IsRun, texts};
-ghost use Rattle.tdb_run.specs.OneLine.{Keeps};
-ghost use Rattle.tdb_run.specs.Begin.{IsNewStore, IsReopened};
-ghost use Rattle.tdb_run.specs.Opened.{GoesOn};
-ghost use Rattle.tdb_run.specs.Replies.{Conversation};
-ghost use Rattle.tdb_run.specs.Run.{IsStopWithoutScript, RunOutcome, RunOver, RunServed};
-ghost use Rattle.tdb_run.specs.Served.{IsCaused, IsUnwritten, Served, WasRefused};
+ghost use Rattle.tdb_serve.specs.declared.script_end.ScriptEnd.{ScriptEnd};
+ghost use Rattle.tdb_stream.specs.SinkContent.{SinkContent};
 ghost use Rattle.tdb_stream.specs.SourceContent.{SourceContent};
-ghost use Rattle.tdb_run.specs.declared.status.Status.TheVariants.{Done, Usage, AnchorCount, PlatformFault, SinkFault};
-ghost use Rattle.tdb_run.specs.declared.status.Success.TheVariants.{Script, Formatted};
+ghost use Rattle.tdb_run.specs.Calls.{Calls};
+ghost use Rattle.tdb_run.specs.Command.{IsFormat, IsNoCommand, IsOfNewStore, IsRun, IsStart, texts};
+ghost use Rattle.tdb_run.specs.Conversed.{Conversed, TellsFaults};
+ghost use Rattle.tdb_run.specs.Ends.{status_of_end};
+ghost use Rattle.tdb_run.specs.Run as runs;
+ghost use Rattle.tdb_run.specs.Scripted.{RanScript};
+ghost use Rattle.tdb_run.specs.declared.status.Status.TheVariants.{AnchorCount, Done, PlatformFault, SinkFault, Usage};
+ghost use Rattle.tdb_run.specs.declared.status.Success.TheVariants.{Formatted, Script};
 
 use crate::command::{Command, read_command};
 use crate::ended::Ended;
 use crate::last_line::put_last_line;
-use crate::serving::serve;
-use crate::starting::{new_store, open_store};
+use crate::opening::{new_store, open_store};
 use crate::status::{Status, Success};
 use std::alloc::Global;
+use tdb_base::Suite;
+use tdb_chunk::Store;
+use tdb_notes::{Notes, serve_notes};
 use tdb_platform::Platform;
+use tdb_serve::ScriptEnd;
 use tdb_stream::{Archive, Sink, Source};
+
+/// A command that was carried out up to its last line.
+#[derive(Drop)]
+struct CarriedOut<P: Platform> {
+    platform: P,
+    status: Status,
+}
 
 /// Carries out the command that the words are, over a device and an anchor under a secret of 32 bytes.
 ///
@@ -44,48 +51,36 @@ pub fn run<S: Source, K: Sink, P: Platform>(
     ensures usage_always { IsNoCommand (texts words.now) → (result.status ≡ Usage) ⊎ (result.status ≡ SinkFault) }
 
     // A store isn't made twice: that needs an anchor whose count is 0.
-    ensures already { result.status ≡ AnchorCount true → IsOfNewStore (texts words.now) × (IsTrue (P.outside platform).tells → (P.outside platform).anchor.0 ≢ 0) }
+    ensures already { result.status ≡ AnchorCount true → IsOfNewStore (texts words.now)
+        × (IsTrue (P.outside platform).tells → (P.outside platform).anchor.0 ≢ 0) }
     ensures already_always { IsOfNewStore (texts words.now) → IsTrue (P.outside platform).tells → (P.outside platform).anchor.0 ≢ 0
         → (result.status ≡ AnchorCount true) ⊎ (result.status ≡ PlatformFault) ⊎ (result.status ≡ SinkFault) }
 
-    // A new store without a script is what its words say.
-    ensures formatted { (segments : ℕ) → result.status ≡ Done (Formatted segments) → IsFormat (texts words.now) segments }
-    ensures scripts { result.status ≡ Done Script → (segments : ℕ) → IsFormat (texts words.now) segments → ⊥ }
-
     // No store is opened where the anchor's count is 0.
-    ensures unformatted { result.status ≡ AnchorCount false → IsRun (texts words.now) × (IsTrue (P.outside platform).tells → (P.outside platform).anchor.0 ≡ 0) }
+    ensures unformatted { result.status ≡ AnchorCount false → IsRun (texts words.now)
+        × (IsTrue (P.outside platform).tells → (P.outside platform).anchor.0 ≡ 0) }
     ensures unformatted_always { IsRun (texts words.now) → IsTrue (P.outside platform).tells → (P.outside platform).anchor.0 ≡ 0
         → (result.status ≡ AnchorCount false) ⊎ (result.status ≡ PlatformFault) ⊎ (result.status ≡ SinkFault) }
 
-    // The sink holds the replies to the lines taken, and the last line. Where the platform tells its trace, that has no
-    // collision and no forgery, and the anchor had a log: whatever the device shows, the run starts from that log's state,
-    // each reply is the session's, each commit whose reply was put stands in the log of the anchor and of each that a stop
-    // may leave, and damage is told only where a read showed some.
-    ensures outcome { RunOutcome P.outside P.crash_states (texts words.now) secret.now (S.content source.old) (S.content source.new) (K.content sink.old) (K.content sink.new) platform result.platform result.status }
+    // A new store without a script is what its words say.
+    ensures formatted { (suite : Suite) (segments : ℕ) → result.status ≡ Done (Formatted suite segments)
+        → IsFormat (texts words.now) suite segments }
+    ensures scripts { result.status ≡ Done Script → (suite : Suite) (segments : ℕ) → IsFormat (texts words.now) suite segments → ⊥ }
 
-    // A run that is refused reads, and leaves the device, the anchor and the source as they were, and nothing new to a stop:
-    // no anchor but the one that it was told.
-    ensures refused { WasRefused result.status → OnlyReads P.outside P.crash_states platform result.platform × IsSettled P.outside P.crash_states result.platform × (source.new ≡ source.old) }
-    ensures refused_new { IsOfNewStore (texts words.now) → WasRefused result.status → result.status ≡ AnchorCount true }
+    // The sink holds the replies to the lines taken, and the last line. Where the platform tells its trace, that has no collision and no
+    // forgery, and the anchor had a log: whatever the device shows, the run starts from that log's state, each reply is the session's,
+    // and the log of each anchor that a stop may leave has the commits of the lines that were answered, and at most one more.
+    ensures outcome { runs.RunOutcome P.outside P.crash_states (texts words.now) secret.now (S.content source.old) (S.content source.new)
+        (K.content sink.old) (K.content sink.new) platform result.platform result.status }
+
     ensures no_command { IsNoCommand (texts words.now) → (result.platform ≡ platform) × (source.new ≡ source.old) }
-    ensures format_takes_nothing { (segments : ℕ) → IsFormat (texts words.now) segments → source.new ≡ source.old }
-    ensures already_untouched { IsOfNewStore (texts words.now) → IsTrue (P.outside platform).tells → (P.outside platform).anchor.0 ≢ 0
-        → IsUnwritten (P.outside platform) (P.outside result.platform) × (source.new ≡ source.old) }
-
-    // Where all that the anchor's log needed stood as it was written, all that it needs now does: nothing was written over
-    // it.
-    ensures intact { (store : Store) → store.secret ≡ secret.now → StaysIntact store (P.outside platform) (P.outside result.platform) }
+    ensures format_takes_nothing { (suite : Suite) (segments : ℕ) → IsFormat (texts words.now) suite segments → source.new ≡ source.old }
 
     // Whatever goes to the device is a sealed record in a segment, or a commit text with its tag in a slot.
     ensures sealed_only { OnlySealed secret.now (P.outside platform) (P.outside result.platform) }
-
-    // A fault is reported only where that object's count of faults rose.
-    ensures causes { IsCaused (S.content source.old) (S.content source.new) (K.content sink.old) (K.content sink.new) (P.outside platform) (P.outside result.platform) result.status }
-    ensures keeps { Keeps (S.content source.old) (S.content source.new) (K.content sink.old) (K.content sink.new) (P.outside platform) (P.outside result.platform) }
     ensures archives { result.archives ≡ archives }
 {
-    let mut platform = platform;
-    let status = outcome(alloc, words, source, sink, &mut platform, secret);
+    let CarriedOut { platform, status } = carry_out(alloc, words, source, sink, platform, secret);
     let status = put_last_line(alloc, sink, status);
     Ended {
         status,
@@ -95,125 +90,135 @@ pub fn run<S: Source, K: Sink, P: Platform>(
 }
 
 // Carries out the command up to its last line.
-fn outcome<S: Source, K: Sink, P: Platform>(
+fn carry_out<S: Source, K: Sink, P: Platform>(
     alloc: Global,
     words: &[&str],
     source: &mut S,
     sink: &mut K,
-    platform: &mut P,
+    platform: P,
     secret: &[u8; 32],
-) -> Status
-    ensures usage { (result ≡ Usage) ↔ IsNoCommand (texts words.now) }
-    ensures already { result ≡ AnchorCount true → IsOfNewStore (texts words.now) × (IsTrue (P.outside platform.old).tells → (P.outside platform.old).anchor.0 ≢ 0) }
-    ensures already_always { IsOfNewStore (texts words.now) → IsTrue (P.outside platform.old).tells → (P.outside platform.old).anchor.0 ≢ 0
-        → (result ≡ AnchorCount true) ⊎ (result ≡ PlatformFault) }
-    ensures formatted { (segments : ℕ) → result ≡ Done (Formatted segments) → IsFormat (texts words.now) segments }
-    ensures scripts { result ≡ Done Script → (segments : ℕ) → IsFormat (texts words.now) segments → ⊥ }
-    ensures unformatted { result ≡ AnchorCount false → IsRun (texts words.now) × (IsTrue (P.outside platform.old).tells → (P.outside platform.old).anchor.0 ≡ 0) }
-    ensures unformatted_always { IsRun (texts words.now) → IsTrue (P.outside platform.old).tells → (P.outside platform.old).anchor.0 ≡ 0
-        → (result ≡ AnchorCount false) ⊎ (result ≡ PlatformFault) }
-    ensures refused { WasRefused result → OnlyReads P.outside P.crash_states platform.old platform.new × IsSettled P.outside P.crash_states platform.new × (source.new ≡ source.old) }
-    ensures refused_new { IsOfNewStore (texts words.now) → WasRefused result → result ≡ AnchorCount true }
-    ensures no_command { IsNoCommand (texts words.now) → (platform.new ≡ platform.old) × (source.new ≡ source.old) }
-    ensures format_takes_nothing { (segments : ℕ) → IsFormat (texts words.now) segments → source.new ≡ source.old }
-    ensures already_untouched { IsOfNewStore (texts words.now) → IsTrue (P.outside platform.old).tells → (P.outside platform.old).anchor.0 ≢ 0
-        → IsUnwritten (P.outside platform.old) (P.outside platform.new) × (source.new ≡ source.old) }
-    ensures served { RunServed P.outside P.crash_states (texts words.now) secret.now (S.content source.old) (S.content source.new) (K.content sink.old) (K.content sink.new) platform.old platform.new result }
-    ensures intact { (store : Store) → store.secret ≡ secret.now → StaysIntact store (P.outside platform.old) (P.outside platform.new) }
-    ensures sealed { OnlySealed secret.now (P.outside platform.old) (P.outside platform.new) }
-    ensures causes { IsCaused (S.content source.old) (S.content source.new) (K.content sink.old) (K.content sink.new) (P.outside platform.old) (P.outside platform.new) result }
-    ensures keeps { Keeps (S.content source.old) (S.content source.new) (K.content sink.old) (K.content sink.new) (P.outside platform.old) (P.outside platform.new) }
+) -> CarriedOut<P>
+    ensures carried_out { runs.CarriedOut P.outside P.crash_states (texts words.now) secret.now (S.content source.old)
+        (S.content source.new) (K.content sink.old) (K.content sink.new) platform result.platform result.status }
+    ensures no_command { IsNoCommand (texts words.now) → (result.platform ≡ platform) × (source.new ≡ source.old) }
+    ensures format_takes_nothing { (suite : Suite) (segments : ℕ) → IsFormat (texts words.now) suite segments → source.new ≡ source.old }
 {
     match read_command(words) {
-        None => Status::Usage,
-        Some(Command::Start(segments)) => start(alloc, source, sink, platform, secret, segments),
-        Some(Command::Format(segments)) => format(alloc, platform, secret, segments),
+        None => CarriedOut {
+            platform,
+            status: Status::Usage,
+        },
+        Some(Command::Start(suite, segments)) => {
+            start(alloc, source, sink, platform, secret, suite, segments)
+        }
+        Some(Command::Format(suite, segments)) => format(alloc, platform, secret, suite, segments),
         Some(Command::Run) => reopen(alloc, source, sink, platform, secret),
     }
 }
 
-// Makes a new store and answers a script.
+// Makes a new store and answers a script over it.
 fn start<S: Source, K: Sink, P: Platform>(
     alloc: Global,
     source: &mut S,
     sink: &mut K,
-    platform: &mut P,
+    platform: P,
     secret: &[u8; 32],
+    suite: Suite,
     segments: u32,
-) -> Status
+) -> CarriedOut<P>
     requires least { 16 ≤ segments }
     requires most { segments ≤ 4096 }
-    ensures served { (served : Served (S.content source.old) (S.content source.new) (K.content sink.old) (K.content sink.new) result)
-        × RunOver P.outside P.crash_states (plain_store secret.now) served.conversation (IsNewStore (plain_store secret.now) segments) platform.old platform.new result }
-    ensures words { result ≢ Usage }
-    ensures scripts { (n : ℕ) → result ≢ Done (Formatted n) }
-    ensures already { result ≡ AnchorCount true → IsTrue (P.outside platform.old).tells → (P.outside platform.old).anchor.0 ≢ 0 }
-    ensures never { result ≢ AnchorCount false }
-    ensures already_always { IsTrue (P.outside platform.old).tells → (P.outside platform.old).anchor.0 ≢ 0 → (result ≡ AnchorCount true) ⊎ (result ≡ PlatformFault) }
-    ensures already_untouched { IsTrue (P.outside platform.old).tells → (P.outside platform.old).anchor.0 ≢ 0 → IsUnwritten (P.outside platform.old) (P.outside platform.new) × (source.new ≡ source.old) }
-    ensures refused { WasRefused result → (result ≡ AnchorCount true) × OnlyReads P.outside P.crash_states platform.old platform.new × IsSettled P.outside P.crash_states platform.new × (source.new ≡ source.old) }
-    ensures intact { (store : Store) → store.secret ≡ secret.now → StaysIntact store (P.outside platform.old) (P.outside platform.new) }
-    ensures sealed { OnlySealed secret.now (P.outside platform.old) (P.outside platform.new) }
-    ensures causes { IsCaused (S.content source.old) (S.content source.new) (K.content sink.old) (K.content sink.new) (P.outside platform.old) (P.outside platform.new) result }
-    ensures keeps { Keeps (S.content source.old) (S.content source.new) (K.content sink.old) (K.content sink.new) (P.outside platform.old) (P.outside platform.new) }
+    ensures carried_out { (words : List (List ℕ)) → IsStart words suite segments → runs.CarriedOut P.outside P.crash_states words
+        secret.now (S.content source.old) (S.content source.new) (K.content sink.old) (K.content sink.new) platform result.platform result.status }
 {
-    match new_store(alloc, platform, secret, segments) {
-        Ok(store) => {
-            let mut store = store;
-            serve(alloc, source, sink, platform, &mut store)
-        }
-        Err(status) => status,
+    match new_store(alloc, platform, secret, suite, segments) {
+        Ok(store) => answer_script(alloc, source, sink, store),
+        Err((platform, why)) => CarriedOut {
+            platform,
+            status: why.status(),
+        },
     }
 }
 
 // Makes a new store.
-fn format<P: Platform>(alloc: Global, platform: &mut P, secret: &[u8; 32], segments: u32) -> Status
+fn format<P: Platform>(
+    alloc: Global,
+    platform: P,
+    secret: &[u8; 32],
+    suite: Suite,
+    segments: u32,
+) -> CarriedOut<P>
     requires least { 16 ≤ segments }
     requires most { segments ≤ 4096 }
-    ensures ran { (came gone : SourceContent) (c : Conversation came gone) → c.taken ≡ [] → c.lines ≡ [] → c.replies ≡ [] → c.next ≡ None → RunOver P.outside P.crash_states (plain_store secret.now) c (IsNewStore (plain_store secret.now) segments) platform.old platform.new result }
-    ensures words { result ≢ Usage }
-    ensures formatted { (success : Success) → result ≡ Done success → success ≡ Formatted segments }
-    ensures already { result ≡ AnchorCount true → IsTrue (P.outside platform.old).tells → (P.outside platform.old).anchor.0 ≢ 0 }
-    ensures never { result ≢ AnchorCount false }
-    ensures already_always { IsTrue (P.outside platform.old).tells → (P.outside platform.old).anchor.0 ≢ 0 → (result ≡ AnchorCount true) ⊎ (result ≡ PlatformFault) }
-    ensures already_untouched { IsTrue (P.outside platform.old).tells → (P.outside platform.old).anchor.0 ≢ 0 → IsUnwritten (P.outside platform.old) (P.outside platform.new) }
-    ensures refused { WasRefused result → (result ≡ AnchorCount true) × OnlyReads P.outside P.crash_states platform.old platform.new × IsSettled P.outside P.crash_states platform.new }
-    ensures intact { (store : Store) → store.secret ≡ secret.now → StaysIntact store (P.outside platform.old) (P.outside platform.new) }
-    ensures goes_on { GoesOn (plain_store secret.now) (P.outside platform.old) (P.outside platform.new) }
-    ensures early { IsStopWithoutScript (P.outside platform.old) (P.outside platform.new) result }
+    ensures carried_out { (words : List (List ℕ)) → IsFormat words suite segments → (came : SourceContent) (before : SinkContent)
+        → runs.CarriedOut P.outside P.crash_states words secret.now came came before before platform result.platform result.status }
 {
-    match new_store(alloc, platform, secret, segments) {
-        Ok(_) => Status::Done(Success::Formatted(segments)),
-        Err(status) => status,
+    match new_store(alloc, platform, secret, suite, segments) {
+        Ok(store) => CarriedOut {
+            platform: store.close(),
+            status: Status::Done(Success::Formatted { suite, segments }),
+        },
+        Err((platform, why)) => CarriedOut {
+            platform,
+            status: why.status(),
+        },
     }
 }
 
-// Opens the store that is there and answers a script.
+// Opens the store that is there and answers a script over it.
 fn reopen<S: Source, K: Sink, P: Platform>(
     alloc: Global,
     source: &mut S,
     sink: &mut K,
-    platform: &mut P,
+    platform: P,
     secret: &[u8; 32],
-) -> Status
-    ensures served { (served : Served (S.content source.old) (S.content source.new) (K.content sink.old) (K.content sink.new) result)
-        × ((store : Store) → store.secret ≡ secret.now → RunOver P.outside P.crash_states store served.conversation (IsReopened store) platform.old platform.new result) }
-    ensures words { result ≢ Usage }
-    ensures scripts { (n : ℕ) → result ≢ Done (Formatted n) }
-    ensures unformatted { result ≡ AnchorCount false → IsTrue (P.outside platform.old).tells → (P.outside platform.old).anchor.0 ≡ 0 }
-    ensures never { result ≢ AnchorCount true }
-    ensures unformatted_always { IsTrue (P.outside platform.old).tells → (P.outside platform.old).anchor.0 ≡ 0 → (result ≡ AnchorCount false) ⊎ (result ≡ PlatformFault) }
-    ensures refused { WasRefused result → OnlyReads P.outside P.crash_states platform.old platform.new × IsSettled P.outside P.crash_states platform.new × (source.new ≡ source.old) }
-    ensures intact { (store : Store) → store.secret ≡ secret.now → StaysIntact store (P.outside platform.old) (P.outside platform.new) }
-    ensures sealed { OnlySealed secret.now (P.outside platform.old) (P.outside platform.new) }
-    ensures causes { IsCaused (S.content source.old) (S.content source.new) (K.content sink.old) (K.content sink.new) (P.outside platform.old) (P.outside platform.new) result }
-    ensures keeps { Keeps (S.content source.old) (S.content source.new) (K.content sink.old) (K.content sink.new) (P.outside platform.old) (P.outside platform.new) }
+) -> CarriedOut<P>
+    ensures carried_out { (words : List (List ℕ)) → IsRun words → runs.CarriedOut P.outside P.crash_states words secret.now
+        (S.content source.old) (S.content source.new) (K.content sink.old) (K.content sink.new) platform result.platform result.status }
 {
     match open_store(alloc, platform, secret) {
-        Ok(store) => {
-            let mut store = store;
-            serve(alloc, source, sink, platform, &mut store)
-        }
-        Err(status) => status,
+        Ok(store) => answer_script(alloc, source, sink, store),
+        Err((platform, why)) => CarriedOut {
+            platform,
+            status: why.status(),
+        },
+    }
+}
+
+// Answers the script of the source over an open store.
+fn answer_script<S: Source, K: Sink, P: Platform>(
+    alloc: Global,
+    source: &mut S,
+    sink: &mut K,
+    store: Store<P>,
+) -> CarriedOut<P>
+    requires running { store.stopped ≡ false }
+    ensures answered { (talk : Conversed (S.content source.old) (S.content source.new) (K.content sink.old) (K.content sink.new)
+        result.status) × RanScript P.outside P.crash_states talk.conversation result.status store result.platform }
+    ensures ended { (end : ScriptEnd) × (result.status ≡ status_of_end end) }
+    ensures faults { TellsFaults (S.content source.old) (S.content source.new) (K.content sink.old) (K.content sink.new)
+        (P.outside store.platform) (P.outside result.platform) result.status }
+    ensures calls { Calls P.outside P.crash_states store.secret store.platform result.platform }
+{
+    let mut notes = Notes::new(store);
+    let end = serve_notes(alloc, source, sink, &mut notes);
+    let Notes { store, .. } = notes;
+    CarriedOut {
+        platform: store.close(),
+        status: status_of(end),
+    }
+}
+
+// How a run ends whose script ended so.
+fn status_of(end: ScriptEnd) -> Status
+    ensures { result ≡ status_of_end end }
+{
+    match end {
+        ScriptEnd::Bye => Status::Done(Success::Script),
+        ScriptEnd::End => Status::End,
+        ScriptEnd::SourceFault => Status::SourceFault,
+        ScriptEnd::SinkFault => Status::SinkFault,
+        ScriptEnd::PlatformFault => Status::PlatformFault,
+        ScriptEnd::Memory => Status::Memory,
     }
 }

@@ -5,7 +5,7 @@ ghost use Rattle.tdb_run.specs.declared.status.Finding.TheVariants.{Form, Tamper
 ghost use Rattle.tdb_run.specs.declared.status.Refusal.TheVariants.{Full};
 
 use std::alloc::{AllocError, Global};
-use tdb_base::{Damage, NoRoom, Place, push_bytes, push_decimal};
+use tdb_base::{Damage, NoRoom, Place, Suite, push_bytes, push_decimal};
 
 // The longest line that is built, `tampered PLACE DIGEST DIGEST`, has fewer bytes.
 const LINE_CAPACITY: usize = 192;
@@ -15,8 +15,8 @@ const LINE_CAPACITY: usize = 192;
 pub enum Success {
     /// A script up to its line `quit`.
     Script,
-    /// A new store of so many segments, without a script.
-    Formatted(u32),
+    /// A new store in this suite, of so many segments, without a script.
+    Formatted { suite: Suite, segments: u32 },
 }
 
 /// What a run found wrong on the device when it opened the store.
@@ -91,7 +91,7 @@ impl Status {
     {
         let line = match self {
             Status::Done(Success::Script) | Status::SinkFault => b"".as_slice(),
-            Status::Done(Success::Formatted(_)) => return None,
+            Status::Done(Success::Formatted { .. }) => return None,
             Status::Usage => b"usage\n",
             Status::AnchorCount { formatted: true } => b"already formatted\n",
             Status::AnchorCount { formatted: false } => b"unformatted\n",
@@ -113,7 +113,9 @@ impl Status {
         ensures { IfOk result (λ line. line.items ≡ status_line self.now) }
     {
         match self {
-            Status::Done(Success::Formatted(segments)) => formatted_line(alloc, *segments),
+            Status::Done(Success::Formatted { suite, segments }) => {
+                formatted_line(alloc, *suite, *segments)
+            }
             Status::Damaged(Finding::Tampered(damage)) => tampered_line(alloc, damage),
             Status::Damaged(Finding::Form(place)) => form_line(alloc, *place),
             Status::Refused(Refusal::Full(room)) => full_line(alloc, room),
@@ -123,11 +125,13 @@ impl Status {
 }
 
 // The last line of a run that made a store.
-fn formatted_line(alloc: Global, segments: u32) -> Result<Vec<u8>, AllocError>
-    ensures { IfOk result (λ line. line.items ≡ formatted_text segments) }
+fn formatted_line(alloc: Global, suite: Suite, segments: u32) -> Result<Vec<u8>, AllocError>
+    ensures { IfOk result (λ line. line.items ≡ formatted_text suite segments) }
 {
     let mut line = Vec::with_capacity(alloc, LINE_CAPACITY)?;
-    push_bytes(&mut line, b"formatted plain ")?;
+    push_bytes(&mut line, b"formatted ")?;
+    push_bytes(&mut line, suite.word().as_bytes())?;
+    push_bytes(&mut line, b" ")?;
     push_decimal(&mut line, u64::from(segments))?;
     push_bytes(&mut line, b"\n")?;
     Ok(line)

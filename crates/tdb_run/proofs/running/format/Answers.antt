@@ -1,34 +1,39 @@
-use Rattle.std.proofs.Common.{IsTrue, sym, subst}
-use Rattle.tdb_chunk.specs.Formatting.{plain_store}
-use Rattle.tdb_overlay.specs.Found.{Store}
-use Rattle.tdb_run.specs.Begin.{IsNewStore}
-use Rattle.tdb_run.specs.Run.{RunRan}
-use Rattle.tdb_run.specs.declared.status.Status.{Status}
-use Rattle.tdb_run.proofs.Partitions.{new_by_run}
-use Rattle.tdb_run.proofs.RunRan.{ran_early, ran_format}
-use Rattle.tdb_run.proofs.Whole.{new_store_intact}
-use Rattle.tdb_run.proofs.running.format.Goals.{in-Ok, in-Err}
+use Rattle.std.proofs.Common.{inr, subst, sym}
+use Rattle.tdb_run.specs.Run.{CarriedOut}
+use Rattle.tdb_run.specs.declared.status.Status.TheVariants.{Done}
+use Rattle.tdb_run.specs.declared.status.Success.TheVariants.{Formatted}
+use Rattle.tdb_run.proofs.Carrying.{carried_new, carried_none}
+use Rattle.tdb_run.proofs.EndingBy.{ends_with_new, ends_without_new}
 use Rattle.tdb_run.proofs.running.format.Goals as goal
 
-pub returns-clause-ran : goal.returns-clause-ran
-returns-clause-ran g c came gone k untaken no_line no_reply no_next told sound history from is =
+pub returns-in-Ok : goal.returns-in-Ok
+returns-in-Ok g c =
     let outside = g.P.Platform.outside in
     let crash_states = g.P.Platform.crash_states in
-    let store : Store = plain_store c.args.secret.now in
-    let old = c.args.platform.now in
-    let new = c.new_store.new.platform in
-    elim c.match-new_store.branch [
-      | in-Ok w ↦
-          subst (λ (s : Status). RunRan outside crash_states store k (IsNewStore store c.args.segments) old new history from s) (sym w.result-is)
-          (ran_format outside crash_states g.met.P.Platform.counts store k (IsNewStore store c.args.segments) (new_by_run store c.args.segments) history from old is untaken no_line no_reply no_next new w.in-Ok.field-0 c.args.segments
-          (subst IsTrue (sym c.new_store.ensures.goes_on.tells) told) w.in-Ok.ensures.opened.settled (w.in-Ok.ensures.begun told sound history from is))
-      | in-Err w ↦
-          let stopped = w.in-Err.ensures.not_begun told sound history from is in
-          subst (λ (s : Status). RunRan outside crash_states store k (IsNewStore store c.args.segments) old new history from s) (sym w.result-is)
-          (ran_early outside crash_states g.met.P.Platform.counts store k (IsNewStore store c.args.segments) (new_by_run store c.args.segments) history from old is untaken no_line no_reply no_next new w.in-Err.status w.in-Err.ensures.early stopped.0 stopped.1)
-    ]
+    let s = c.in-Ok.store in
+    record {
+      carried_out = λ words is came before.
+          subst
+          (λ (p : g.row.P.Denot). CarriedOut outside crash_states words c.args.secret.now came came before before c.args.platform p
+          (Done (Formatted c.args.suite c.args.segments)))
+          (sym c.close.ensures)
+          (carried_new outside crash_states g.met.P.Platform.counts g.met.P.Platform.numbered words c.args.secret.now came before
+          c.args.platform s c.args.suite c.args.segments is c.in-Ok.ensures.calls c.in-Ok.ensures.opened c.in-Ok.ensures.quiet
+          (ends_with_new outside crash_states words c.args.platform s.platform c.args.suite c.args.segments (inr is) is
+          c.in-Ok.ensures.already_ok));
+    }
 
-pub returns-clause-intact : goal.returns-clause-intact
-returns-clause-intact g c store secret told =
-    new_store_intact store (plain_store c.args.secret.now) (g.P.Platform.outside c.args.platform.now) (g.P.Platform.outside c.new_store.new.platform) secret (c.new_store.ensures.untouched told)
-    (c.new_store.ensures.whole told)
+pub returns-in-Err : goal.returns-in-Err
+returns-in-Err g c =
+    let outside = g.P.Platform.outside in
+    let crash_states = g.P.Platform.crash_states in
+    let stop = c.in-Err in
+    record {
+      carried_out = λ words is came before.
+          carried_none outside crash_states g.met.P.Platform.counts g.met.P.Platform.numbered words c.args.secret.now came before
+          c.args.platform stop.platform stop.why c.status.result c.status.ensures
+          (λ store history from p fits. stop.ensures.not_opened store history from p (fits c.args.suite c.args.segments (inr is)))
+          stop.ensures.calls_err stop.ensures.faults
+          (ends_without_new outside crash_states words c.args.platform stop.platform c.args.suite c.args.segments (inr is) stop.why
+          stop.ensures.already stop.ensures.already_always stop.ensures.never);
+    }

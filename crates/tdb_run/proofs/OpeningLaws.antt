@@ -1,0 +1,209 @@
+-- How a run comes to the store that it opens, by what its calls say.
+use Rattle.std.proofs.Common.{◌≡◌, ◌≢◌, ◌⊎◌, inl, inr, ⊎_elim, ℕ, ◌≤◌, ◌<◌, Bool, true, false, List, [], ◌∷◌, ◌++◌, length, Option, Some, None, Ok, Err, Result, IsTrue, refl, sym, ◌∙◌, ap, subst, arith, append-nil}
+use Rattle.std.specs.FinMap.{get, insert, contains_key}
+use Rattle.std.specs.Option.{option_map}
+use Rattle.tdb_base.specs.declared.names.PartId.{PartId}
+use Rattle.tdb_base.specs.declared.piece.Place.{Place}
+use Rattle.tdb_base.specs.declared.suite.Suite.{Suite}
+use Rattle.tdb_base.specs.Trace.{IsNumbered, Extends}
+use Rattle.tdb_base.proofs.Tracing.{extends_along, extends_itself}
+use Rattle.tdb_append.specs.Put.{slot_place}
+use Rattle.tdb_model.specs.Apply.{History, apply_all}
+use Rattle.tdb_model.specs.Check.{check_commit}
+use Rattle.tdb_model.specs.HasCommitted.{IsBegun, IsCommitted}
+use Rattle.tdb_model.specs.Lookup.{info_of}
+use Rattle.tdb_model.specs.Opening.{opening_changes}
+use Rattle.tdb_model.specs.State.{Partition, State}
+use Rattle.tdb_model.specs.declared.change.Change.{Change}
+use Rattle.tdb_model.specs.declared.change.PartInfo.{PartInfo}
+use Rattle.tdb_platform.specs.CrashStates.{CrashStates, LeavesOnly}
+use Rattle.tdb_platform.specs.Outside.{Anchor, Outside}
+use Rattle.tdb_platform.proofs.Moments.{goes_on_by, started}
+use Rattle.tdb_overlay.specs.Found.{Store}
+use Rattle.tdb_overlay.specs.Growth.{IsSettled}
+use Rattle.tdb_overlay.specs.Log.{IsLog}
+use Rattle.tdb_overlay.specs.Ran.{RanOn}
+use Rattle.tdb_overlay.specs.Reading.{OnlyReads}
+use Rattle.tdb_overlay.specs.Sound.{IsSound}
+use Rattle.tdb_overlay.specs.StoreState.{StoreState}
+use Rattle.tdb_overlay.proofs.OneLog.{log_is_one}
+use Rattle.tdb_overlay.proofs.RanLaws.{ran_itself, ran_reads, ran_then, sound_earlier}
+use Rattle.tdb_overlay.proofs.ReadingLaws.{reads_nothing, reads_then}
+use Rattle.tdb_overlay.proofs.SealedPuts.{only_sealed_along, only_sealed_none}
+use Rattle.tdb_chunk.specs.Settled.{RanSettled}
+use Rattle.tdb_chunk.specs.Standing.{IsReady, StandsAt, StoreRan}
+use Rattle.tdb_chunk.specs.StoreMeans.{store_means}
+use Rattle.tdb_chunk.specs.StoreView.{StoreView, head_in, store_in, written_in}
+use Rattle.tdb_run.specs.Calls.{Calls}
+use Rattle.tdb_run.specs.Opened.{HasNotOpened, HasOpened}
+use Rattle.tdb_run.specs.Opens.{HasBoth, HasNone, HasUserPartitions, IsMade, IsToldMade}
+
+some_not_none : {T : Type 0} (x : T) → ◌≡◌ {A = Option T} (Some x) None → ⊥
+some_not_none x is = cc
+
+-- what is told of a partition is that of the partition
+pub made_there : (part : PartId) (found : Option Partition) (told : Option PartInfo) → told ≡ option_map (info_of part) found
+    → IsToldMade told → IsMade found
+made_there part None told is made = subst IsToldMade is made
+made_there part (Some p) told is made = subst IsToldMade is made
+
+pub told_there : (part : PartId) (found : Option Partition) (told : Option PartInfo) → told ≡ option_map (info_of part) found
+    → IsMade found → IsToldMade told
+told_there part None told is made = absurd made
+told_there part (Some p) told is made = subst IsToldMade (sym is) made
+
+pub none_there : (part : PartId) (found : Option Partition) (told : Option PartInfo) → told ≡ option_map (info_of part) found
+    → told ≡ None → found ≡ None
+none_there part None told is none = refl
+none_there part (Some p) told is none = absurd (some_not_none (info_of part p) (sym is ∙ none))
+
+pub none_told : (part : PartId) (found : Option Partition) (told : Option PartInfo) → told ≡ option_map (info_of part) found
+    → found ≡ None → told ≡ None
+none_told part None told is none = is
+none_told part (Some p) told is none = absurd (some_not_none p none)
+
+module _ {D : Type 0} (outside : D → Outside) (crash_states : D → CrashStates)
+    (counts : (p : D) (t u : ℕ) (i : List ℕ) (a : Anchor) → t ≤ u → u ≤ (outside p).clock → crash_states p u i a → crash_states p t i a)
+    (numbered : (p : D) → IsTrue (outside p).tells → IsNumbered (outside p).trace) where
+  abbrev CallsOf : List ℕ → D → D → Type 0
+  CallsOf secret old new = Calls outside crash_states secret old new
+
+  pub calls_none : (secret : List ℕ) (p : D) → CallsOf secret p p
+  calls_none secret p = record {
+    tells = refl;
+    honest = refl;
+    grows = λ t. extends_itself (outside p).trace;
+    sealed = only_sealed_none secret (outside p);
+    faults = omega arith;
+    moments = started outside crash_states counts p (λ i a. Unit {0}) (λ i a left. tt);
+  }
+
+  any_time : (old new : D) {Q : List ℕ → Anchor → Type 0} → LeavesOnly outside crash_states old new Q
+      → LeavesOnly outside crash_states old new (λ i a. Unit {0})
+  any_time old new l = record { later = l.later; each = λ i a left. tt; before = l.before; keeps = l.keeps }
+
+  pub calls_on : (store : Store) (old new : D) (surely maybe : History) → RanOn outside crash_states store old surely maybe new
+      → CallsOf store.secret old new
+  calls_on store old new surely maybe ran = record {
+    tells = ran.tells;
+    honest = ran.honest;
+    grows = ran.grows;
+    sealed = ran.sealed;
+    faults = ran.faults;
+    moments = any_time old new ran.moments;
+  }
+
+  pub calls_reads : (store : Store) (old new : D) → OnlyReads outside crash_states old new → CallsOf store.secret old new
+  calls_reads store old new reads = calls_on store old new [] [] (ran_reads outside crash_states counts numbered store old new reads)
+
+  pub calls_then : (secret : List ℕ) (a b c : D) → CallsOf secret a b → CallsOf secret b c → CallsOf secret a c
+  calls_then secret a b c first then = record {
+    tells = then.tells ∙ first.tells;
+    honest = then.honest ∙ first.honest;
+    grows = λ t. extends_along (outside a).trace (outside b).trace (outside c).trace (first.grows t)
+        (then.grows (subst (λ (x : Bool). IsTrue x) (sym first.tells) t));
+    sealed = only_sealed_along secret (outside a) (outside b) (outside c) first.tells first.sealed then.sealed;
+    faults = omega (arith, first.faults, then.faults);
+    moments = goes_on_by outside crash_states counts a b c (λ i x. Unit {0}) first.moments then.moments;
+  }
+
+  pub calls_ran : (old new : StoreView D) (surely maybe : History) → StoreRan outside crash_states old surely maybe new
+      → CallsOf old.secret old.platform new.platform
+  calls_ran old new surely maybe runs = record {
+    tells = runs.tells;
+    honest = runs.honest;
+    grows = runs.grows;
+    sealed = runs.sealed;
+    faults = runs.faults;
+    moments = runs.moments;
+  }
+
+  -- A part that makes commits, behind calls that only read, and behind another.
+  pub settled_behind : (store : Store) (a b c : D) (surely maybe : History) → OnlyReads outside crash_states a b
+      → RanSettled outside crash_states store b surely maybe c → RanSettled outside crash_states store a surely maybe c
+  settled_behind store a b c surely maybe reads then = record {
+    mid = then.mid;
+    reads = reads_then outside crash_states counts a b then.mid reads then.reads;
+    settled = then.settled;
+    rest = then.rest;
+  }
+
+  pub settled_then : (store : Store) (a b c : D) (surely maybe : History) → RanSettled outside crash_states store a [] [] b
+      → RanOn outside crash_states store b surely maybe c → RanSettled outside crash_states store a surely maybe c
+  settled_then store a b c surely maybe first then = record {
+    mid = first.mid;
+    reads = first.reads;
+    settled = first.settled;
+    rest = ran_then outside crash_states counts numbered store first.mid b c [] surely maybe first.rest then;
+  }
+
+  pub whole_ran : (store : Store) (a b : D) (surely maybe : History) → RanSettled outside crash_states store a surely maybe b
+      → RanOn outside crash_states store a surely maybe b
+  whole_ran store a b surely maybe r = ran_then outside crash_states counts numbered store a r.mid b [] surely maybe
+      (ran_reads outside crash_states counts numbered store a r.mid r.reads) r.rest
+
+  -- nothing was committed
+  pub only_settled : (store : Store) (a b : D) → OnlyReads outside crash_states a b → IsSettled outside crash_states b
+      → RanSettled outside crash_states store a [] [] b
+  only_settled store a b reads settled = record {
+    mid = b;
+    reads = reads;
+    settled = settled;
+    rest = ran_itself outside crash_states counts numbered store b;
+  }
+
+  -- A store that isn't stopped, whose calls made of it another value.
+  module _ (old new : StoreView D) (ready : IsReady outside crash_states old) (running : old.stopped ≡ false)
+      (sound : IsSound old.secret (outside new.platform)) (history : History) (from : StoreState) (stands : StandsAt outside old history from) where
+    settled_by : (surely maybe : History) → StoreRan outside crash_states old surely maybe new
+        → RanSettled outside crash_states (store_in old) old.platform surely maybe new.platform
+    settled_by surely maybe runs = record {
+      mid = old.platform;
+      reads = reads_nothing outside crash_states counts old.platform;
+      settled = ready.settled running;
+      rest = runs.ran sound history from stands;
+    }
+
+    sound_of : store_in new ≡ store_in old → IsSound new.secret (outside new.platform)
+    sound_of same = subst (λ (s : List ℕ). IsSound s (outside new.platform)) (sym (ap (λ (s : Store). s.secret) same)) sound
+
+    -- the store stands in one state
+    one_state : (more other : History) (last end : StoreState) → StandsAt outside new more last → StandsAt outside new other end
+        → last ≡ end
+    one_state more other last end a b =
+        (log_is_one (written_in outside new) (store_in new) (store_in new) refl (head_in new) more other last end a.log b.log).1
+
+    -- its partitions were made,
+    pub opened_by : HasNone from.chunks → IsCommitted (store_means outside crash_states) (opening_changes old.log.suite) old new
+        → HasOpened outside crash_states (store_in old) old.platform history from new
+    opened_by none is =
+        let count = new.log.head.count in
+        let changes = opening_changes old.log.suite in
+        let after = is.runs.stands sound history from stands in
+        let told = is.state (sound_of is.runs.same) from.chunks (history, from, stands, refl) in
+        record {
+          opening = (count, changes) ∷ [];
+          state = apply_all count from.chunks changes;
+          opens = inr (none, (count, refl, refl));
+          same = is.runs.same;
+          ran = settled_by ((count, changes) ∷ []) [] is.runs;
+          last = after.0;
+          stands = after.1;
+          chunks = ap (λ (s : StoreState). s.chunks) (one_state _ told.0 after.0 told.1 after.1 told.2) ∙ told.3;
+        }
+
+    -- or may have been,
+    pub begun_by : HasNone from.chunks → IsBegun (store_means outside crash_states) (opening_changes old.log.suite) old new
+        → HasNotOpened outside crash_states (store_in old) old.platform new.platform from
+    begun_by none is =
+        let changes = opening_changes old.log.suite in
+        record {
+          maybe = (is.count, changes) ∷ [];
+          may_open = inr (apply_all is.count from.chunks changes, inr (none, (is.count, refl, refl)));
+          ran = inl (settled_by [] ((is.count, changes) ∷ []) is.runs);
+        }
+
+    -- or nothing was begun.
+    pub refused_by : StoreRan outside crash_states old [] [] new
+        → HasNotOpened outside crash_states (store_in old) old.platform new.platform from
+    refused_by runs = record { maybe = []; may_open = inl refl; ran = inl (settled_by [] [] runs) }
