@@ -40,13 +40,16 @@ use Rattle.tdb_chunk.specs.StoreView.{StoreView, store_in}
 use Rattle.tdb_chunk.specs.declared.store_format.FormatError.{FormatError}
 use Rattle.tdb_chunk.specs.declared.store_format.FormatError.TheVariants as formats
 use Rattle.tdb_run.specs.Calls.{Calls, StopFaults}
-use Rattle.tdb_run.specs.Ends.{stop_of_commit, stop_of_format, stop_of_open}
+use Rattle.tdb_run.specs.Ends.{after_format, stop_of_commit, stop_of_format, stop_of_open}
 use Rattle.tdb_run.specs.Opened.{HasNotOpened, HasOpened, IsWhyNot, OverLogs, WhereItStands}
 use Rattle.tdb_run.specs.Opens.{HasNone}
 use Rattle.tdb_run.specs.declared.opening.NotOpened.{NotOpened}
 use Rattle.tdb_run.specs.declared.opening.NotOpened.TheVariants.{AlreadyFormatted, Damaged, Memory, PlatformFault, Refused, Unformatted}
 use Rattle.tdb_run.specs.declared.status.Finding.TheVariants.{Form, Tampered}
 use Rattle.tdb_run.proofs.OpeningLaws.{only_settled, settled_behind, settled_then, whole_ran}
+
+one_and_none : {n : ℕ} → n ≡ 1 → n ≡ 0 → ⊥
+one_and_none one none = cc
 
 -- What is told of faults, of each way in which a store isn't opened.
 pub faults_open : (old new : Outside) (e : OpenError) → (e ≡ opens.Fault → Rose old.faults new.faults)
@@ -311,14 +314,27 @@ module _ {D : Type 0} (outside : D → Outside) (crash_states : D → CrashState
           (settled_then outside crash_states counts numbered (store_under secret suite) platform p end [] [] ran
           (ran_reads outside crash_states counts numbered (store_under secret suite) p end r.0))
 
-    pub not_opened_new : (IsTrue (outside platform).tells → (outside p).trace.read ≡ (outside platform).trace.read) → (end : D)
-        (why : NotOpened) → Calls outside crash_states secret p end
+    -- The anchor counts the first text, so it isn't found to count nothing.
+    why_after : (n : StoreState) (end : D) → (outside p).anchor.0 ≡ 1 → (why : NotOpened)
+        → (why ≡ Unformatted → (outside p).anchor.0 ≡ 0)
+        → IsWhyNot (store_under secret suite) (outside platform) (outside end) n why
+        → IsWhyNot (store_under secret suite) (outside platform) (outside end) n (after_format why)
+    why_after n end one Unformatted zero is = absurd (one_and_none one (zero refl))
+    why_after n end one AlreadyFormatted zero is = is
+    why_after n end one (Damaged finding) zero is = is
+    why_after n end one (Refused refusal) zero is = is
+    why_after n end one PlatformFault zero is = is
+    why_after n end one Memory zero is = is
+
+    pub not_opened_new : (IsTrue (outside platform).tells → (outside p).trace.read ≡ (outside platform).trace.read)
+        → (IsTrue (outside platform).tells → (outside p).anchor.0 ≡ 1) → (end : D) (why : NotOpened)
+        → (why ≡ Unformatted → IsTrue (outside p).tells → (outside p).anchor.0 ≡ 0) → Calls outside crash_states secret p end
         → OverLogs (outside p) (outside end) secret
         (λ store history from. NotOpens store p end from × IsWhyNot store (outside p) (outside end) from why)
         → OverLogs (outside platform) (outside end) secret
         (λ store history from. store.suite ≡ suite
-        → NotOpens store platform end from × IsWhyNot store (outside platform) (outside end) from why)
-    not_opened_new unread end why calls opened store history from given suite_is =
+        → NotOpens store platform end from × IsWhyNot store (outside platform) (outside end) from (after_format why))
+    not_opened_new unread one end why zero calls opened store history from given suite_is =
         let o = opened (store_under secret suite) [] (formatted_state (store_under secret suite) segments)
         (given_new end calls store history from given suite_is) in
         let empty = nothing end calls store history from given suite_is in
@@ -327,11 +343,12 @@ module _ {D : Type 0} (outside : D → Outside) (crash_states : D → CrashState
           may_open = o.0.may_open;
           ran = inl (ran_new (unread given.tells) end o.0.maybe o.0.ran);
         } in
-        let is_why = why_before (unread given.tells) end why o.1 in
-        subst (λ (t : Store). NotOpens t platform end from × IsWhyNot t (outside platform) (outside end) from why)
+        let is_why = why_after first_state end (one given.tells) why
+            (λ is. zero is (at_first end calls store history from given suite_is).tells) (why_before (unread given.tells) end why o.1) in
+        subst (λ (t : Store). NotOpens t platform end from × IsWhyNot t (outside platform) (outside end) from (after_format why))
         (it_is end calls store history from given suite_is)
         (subst (λ (x : StoreState). NotOpens (store_under secret suite) platform end x
-        × IsWhyNot (store_under secret suite) (outside platform) (outside end) x why) (sym empty.1) (first, is_why))
+        × IsWhyNot (store_under secret suite) (outside platform) (outside end) x (after_format why)) (sym empty.1) (first, is_why))
 
   -- It wasn't formatted.
   pub not_formatted : (platform end : D) (secret : List ℕ) (suite : Suite) (e : FormatError)

@@ -3,6 +3,7 @@ pub mod EndingBy
 pub mod Endings
 pub mod Joining
 pub mod Leaving
+pub mod MakingPartitions
 pub mod OpeningLaws
 pub mod Partitions
 pub mod Refusing

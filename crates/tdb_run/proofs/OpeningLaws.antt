@@ -1,6 +1,6 @@
 -- How a run comes to the store that it opens, by what its calls say.
 use Rattle.std.proofs.Common.{◌≡◌, ◌≢◌, ◌⊎◌, inl, inr, ⊎_elim, ℕ, ◌≤◌, ◌<◌, Bool, true, false, List, [], ◌∷◌, ◌++◌, length, Option, Some, None, Ok, Err, Result, IsTrue, refl, sym, ◌∙◌, ap, subst, arith, append-nil}
-use Rattle.std.specs.FinMap.{get, insert, contains_key}
+use Rattle.std.specs.Prelude.{IfErr, IfOk}
 use Rattle.std.specs.Option.{option_map}
 use Rattle.tdb_base.specs.declared.names.PartId.{PartId}
 use Rattle.tdb_base.specs.declared.piece.Place.{Place}
@@ -37,6 +37,16 @@ use Rattle.tdb_chunk.specs.StoreView.{StoreView, head_in, store_in, written_in}
 use Rattle.tdb_run.specs.Calls.{Calls}
 use Rattle.tdb_run.specs.Opened.{HasNotOpened, HasOpened}
 use Rattle.tdb_run.specs.Opens.{HasBoth, HasNone, HasUserPartitions, IsMade, IsToldMade}
+
+-- what two clauses say of an answer
+pub if_ok_two : {T E : Type 0} (r : Result T E) {P Q R : T → Type 0} → ((x : T) → P x → Q x → R x) → IfOk r P → IfOk r Q → IfOk r R
+if_ok_two (Ok x) both p q = both x p q
+if_ok_two (Err e) both p q = tt
+
+pub if_err_three : {T E : Type 0} (r : Result T E) {P Q R S : E → Type 0} → ((e : E) → P e → Q e → R e → S e)
+    → IfErr r P → IfErr r Q → IfErr r R → IfErr r S
+if_err_three (Ok x) all p q s = tt
+if_err_three (Err e) all p q s = all e p q s
 
 some_not_none : {T : Type 0} (x : T) → ◌≡◌ {A = Option T} (Some x) None → ⊥
 some_not_none x is = cc

@@ -1,5 +1,6 @@
 -- How a run ends, by how its opening stopped or its script ended.
 use Rattle.std.specs.Prelude.{true, false}
+use Rattle.tdb_append.specs.Put.{slot_place}
 use Rattle.tdb_base.specs.declared.piece.Place.{Place}
 use Rattle.tdb_chunk.specs.declared.store_format.FormatError.{FormatError}
 use Rattle.tdb_chunk.specs.declared.store_format.FormatError.TheVariants as formats
@@ -49,6 +50,15 @@ stop_of_format formats.Segments = stops.Memory
 stop_of_format (formats.AlreadyFormatted count) = stops.AlreadyFormatted
 stop_of_format formats.Fault = stops.PlatformFault
 stop_of_format formats.Memory = stops.Memory
+
+-- or can't be opened that was just made, where the anchor counts a text,
+abbrev pub after_format : NotOpened → NotOpened
+after_format stops.Unformatted = stops.Damaged (Form (record { 0 = slot_place 1 }))
+after_format stops.AlreadyFormatted = stops.AlreadyFormatted
+after_format (stops.Damaged finding) = stops.Damaged finding
+after_format (stops.Refused refusal) = stops.Refused refusal
+after_format stops.PlatformFault = stops.PlatformFault
+after_format stops.Memory = stops.Memory
 
 -- or whose partitions can't be made, the last text being in this slot.
 abbrev pub stop_of_commit : CommitError → Place → NotOpened

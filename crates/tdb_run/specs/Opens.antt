@@ -35,7 +35,7 @@ abbrev pub Opens : Suite → State → History → State → Type 0
 Opens suite before opening after =
     (HasBoth before × (opening ≡ []) × (after ≡ before))
     ⊎ (HasNone before × ((count : ℕ) × (opening ≡ (count, opening_changes suite) ∷ [])
-        × (after ≡ apply_all count before (opening_changes suite))))
+    × (after ≡ apply_all count before (opening_changes suite))))
 
 -- that commit may have been made
 abbrev pub MayOpen : Suite → State → History → Type 0

@@ -114,10 +114,24 @@ pub(crate) fn new_store<P: Platform>(
     ensures already_ok { IfOk result (λ s. IsTrue (P.outside platform).tells → (P.outside platform).anchor.0 ≡ 0) }
     ensures already_always { IfErr result (λ e. IsTrue (P.outside platform).tells → (P.outside platform).anchor.0 ≢ 0
         → (e.1 ≡ stops.AlreadyFormatted) ⊎ (e.1 ≡ stops.PlatformFault)) }
+    ensures never { IfErr result (λ e. e.1 ≢ stops.Unformatted) }
 {
     match Store::format(alloc, platform, secret, suite, segments) {
-        Ok(platform) => open_store(alloc, platform, secret),
+        Ok(platform) => match open_store(alloc, platform, secret) {
+            Ok(store) => Ok(store),
+            Err((platform, why)) => Err((platform, after_format(why))),
+        },
         Err((platform, error)) => Err((platform, stop_of_format(error))),
+    }
+}
+
+// Why a store isn't opened that was just made. An anchor that counts nothing then isn't one of a store.
+fn after_format(why: NotOpened) -> NotOpened
+    ensures { result ≡ ends.after_format why }
+{
+    match why {
+        NotOpened::Unformatted => NotOpened::Damaged(Finding::Form(slot_of(1))),
+        _ => why,
     }
 }
 
@@ -195,10 +209,7 @@ fn user_partitions<P: Platform>(store: &Store<P>) -> UserPartitions
 }
 
 // The store, where both partitions were made; after they were made, where neither is there.
-fn with_partitions<P: Platform>(
-    alloc: Global,
-    store: Store<P>,
-) -> Result<Store<P>, (P, NotOpened)>
+fn with_partitions<P: Platform>(alloc: Global, store: Store<P>) -> Result<Store<P>, (P, NotOpened)>
     requires ready { IsReady P.outside P.crash_states store }
     requires running { store.stopped ≡ false }
     ensures opened { IfOk result (λ s. WhereItStands P.outside store s.platform
@@ -229,10 +240,7 @@ fn with_partitions<P: Platform>(
 }
 
 // The store after its partitions were made.
-fn make_partitions<P: Platform>(
-    alloc: Global,
-    store: Store<P>,
-) -> Result<Store<P>, (P, NotOpened)>
+fn make_partitions<P: Platform>(alloc: Global, store: Store<P>) -> Result<Store<P>, (P, NotOpened)>
     requires ready { IsReady P.outside P.crash_states store }
     requires running { store.stopped ≡ false }
     requires missing { InItsState P.outside store HasNone }

@@ -16,7 +16,7 @@ returns-in-Ok g c =
           subst
           (λ (p : g.row.P.Denot). CarriedOut outside crash_states words c.args.secret.now came came before before c.args.platform p
           (Done (Formatted c.args.suite c.args.segments)))
-          (sym c.close.ensures)
+          (sym c.close.ensures.platform)
           (carried_new outside crash_states g.met.P.Platform.counts g.met.P.Platform.numbered words c.args.secret.now came before
           c.args.platform s c.args.suite c.args.segments is c.in-Ok.ensures.calls c.in-Ok.ensures.opened c.in-Ok.ensures.quiet
           (ends_with_new outside crash_states words c.args.platform s.platform c.args.suite c.args.segments (inr is) is
