@@ -5,7 +5,6 @@ use Rattle.tdb_base.specs.declared.suite.Suite.{Suite}
 use Rattle.tdb_model.specs.Apply.{History}
 use Rattle.tdb_platform.specs.CrashStates.{CrashStates}
 use Rattle.tdb_platform.specs.Outside.{Anchor, Outside}
-use Rattle.tdb_serve.specs.Replies.{Conversation}
 use Rattle.tdb_serve.proofs.Conversing.{no_conversation}
 use Rattle.tdb_stream.specs.SinkContent.{SinkContent}
 use Rattle.tdb_stream.specs.SourceContent.{SourceContent}

@@ -12,7 +12,6 @@ use Rattle.tdb_run.specs.Ends.{status_of_end, status_of_stop}
 use Rattle.tdb_run.specs.Run.{EndsBy}
 use Rattle.tdb_run.specs.declared.opening.NotOpened.{NotOpened}
 use Rattle.tdb_run.specs.declared.opening.NotOpened.TheVariants as stops
-use Rattle.tdb_run.specs.declared.status.Finding.{Finding}
 use Rattle.tdb_run.specs.declared.status.Status.{Status}
 use Rattle.tdb_run.specs.declared.status.Status.TheVariants.{Done, Usage, AnchorCount, Damaged, PlatformFault, SourceFault, SinkFault, Memory, End, Refused}
 use Rattle.tdb_run.specs.declared.status.Success.TheVariants.{Script, Formatted}

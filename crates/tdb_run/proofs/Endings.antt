@@ -1,5 +1,5 @@
 -- How a run ends that took nothing from its source, and how faults are told over its opening and its script.
-use Rattle.std.proofs.Common.{◌≡◌, ℕ, inl, inr, refl, ◌∙◌, subst}
+use Rattle.std.proofs.Common.{◌≡◌, ℕ, inr, refl, ◌∙◌, subst}
 use Rattle.tdb_base.specs.Rose.{Rose}
 use Rattle.tdb_platform.specs.Outside.{Outside}
 use Rattle.tdb_serve.proofs.Conversing.{no_conversation}

@@ -1,11 +1,10 @@
 -- What a run makes of its platform until its store is open, joined from its calls.
-use Rattle.std.proofs.Common.{◌≡◌, ◌≢◌, ◌⊎◌, inl, inr, ⊎_elim, ℕ, ◌≤◌, Bool, List, [], ◌++◌, Option, Some, None, IsTrue, refl, sym, ◌∙◌, ap, subst}
+use Rattle.std.proofs.Common.{◌≡◌, ◌≢◌, ◌⊎◌, inl, inr, ⊎_elim, ℕ, ◌≤◌, Bool, List, [], ◌++◌, Some, IsTrue, refl, sym, ◌∙◌, ap, subst}
 use Rattle.std.proofs.lemmas.Option.{same_Some}
-use Rattle.std.specs.FinMap.{get, get-empty}
+use Rattle.std.specs.FinMap.{get-empty}
 use Rattle.std.specs.Ordering.{nat_cmp}
 use Rattle.tdb_base.specs.Rose.{Rose}
 use Rattle.tdb_base.specs.declared.piece.Damage.{Damage}
-use Rattle.tdb_base.specs.declared.piece.Piece.{Piece}
 use Rattle.tdb_base.specs.declared.piece.Place.{Place}
 use Rattle.tdb_base.specs.declared.suite.Suite.{Suite}
 use Rattle.tdb_base.specs.Trace.{IsNumbered, WrittenPiece}
@@ -14,7 +13,6 @@ use Rattle.tdb_mark.specs.CommitText.{commit_key_of, commit_of}
 use Rattle.tdb_mark.specs.declared.commit.Commit.{Commit}
 use Rattle.tdb_model.specs.Apply.{History}
 use Rattle.tdb_model.specs.State.{Partition, no_partitions}
-use Rattle.tdb_model.specs.Stays.{TellsFaults}
 use Rattle.tdb_model.specs.declared.error.CommitError.{CommitError}
 use Rattle.tdb_model.specs.declared.error.CommitError.TheVariants as refusals
 use Rattle.tdb_platform.specs.CrashStates.{CrashStates}
@@ -22,7 +20,6 @@ use Rattle.tdb_platform.specs.Outside.{Anchor, Outside}
 use Rattle.tdb_overlay.specs.Found.{Store, in_trace}
 use Rattle.tdb_overlay.specs.Growth.{IsSettled}
 use Rattle.tdb_overlay.specs.Log.{IsLog, IsLogOf}
-use Rattle.tdb_overlay.specs.Ran.{RanOn}
 use Rattle.tdb_overlay.specs.Reading.{OnlyReads}
 use Rattle.tdb_overlay.specs.Required.{IsOpeningPiece}
 use Rattle.tdb_overlay.specs.Sound.{IsSound}

@@ -1,15 +1,15 @@
 -- What a stop leaves of a run that was told its anchor.
-use Rattle.std.proofs.Common.{◌≡◌, ◌⊎◌, inl, inr, ⊎_elim, ℕ, ◌≤◌, List, [], ◌++◌, IsTrue, Bool, refl, sym, ◌∙◌, ap, subst, arith}
+use Rattle.std.proofs.Common.{inl, inr, ⊎_elim, ℕ, ◌≤◌, List, [], ◌++◌, IsTrue, Bool, sym, subst}
 use Rattle.tdb_base.specs.Trace.{IsNumbered, WrittenPiece}
 use Rattle.tdb_model.specs.Apply.{History}
-use Rattle.tdb_platform.specs.CrashStates.{CrashStates, now}
+use Rattle.tdb_platform.specs.CrashStates.{CrashStates}
 use Rattle.tdb_platform.specs.Outside.{Anchor, Outside}
 use Rattle.tdb_overlay.specs.Found.{Store}
 use Rattle.tdb_overlay.specs.Log.{IsLog}
 use Rattle.tdb_overlay.specs.Ran.{FromLeft, RanOn}
 use Rattle.tdb_overlay.specs.Sound.{IsSound}
 use Rattle.tdb_overlay.specs.StoreState.{StoreState}
-use Rattle.tdb_overlay.proofs.RanLaws.{intact_since, kept_after, kept_since, ran_reads, ran_then, reliable_after, sound_before, sound_earlier}
+use Rattle.tdb_overlay.proofs.RanLaws.{intact_since, kept_after, kept_since, ran_reads, ran_then, reliable_after, sound_before}
 use Rattle.tdb_run.specs.Ran.{HasAllOf, Leaves}
 use Rattle.tdb_chunk.specs.Settled.{RanSettled}
 

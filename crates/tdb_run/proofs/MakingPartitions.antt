@@ -1,13 +1,10 @@
 -- The commit that makes partitions 1 and 2 was not made.
 use Rattle.std.proofs.Common.{◌≡◌, ◌≢◌, ◌⊎◌, inl, inr, ⊎_elim, ℕ, ◌≤◌, false, List, [], ◌∷◌, Result, Err, IsTrue, refl, sym, ◌∙◌, ap, subst}
 use Rattle.tdb_base.specs.declared.piece.Place.{Place}
-use Rattle.tdb_base.specs.declared.suite.Suite.{Suite}
 use Rattle.tdb_base.specs.Trace.{IsNumbered}
 use Rattle.tdb_model.specs.Apply.{History}
-use Rattle.tdb_model.specs.HasCommitted.{HasCommitted, IsBegun}
+use Rattle.tdb_model.specs.HasCommitted.{HasCommitted}
 use Rattle.tdb_model.specs.Opening.{opening_changes}
-use Rattle.tdb_model.specs.Stays.{Stays}
-use Rattle.tdb_model.specs.declared.change.Change.{Change}
 use Rattle.tdb_model.specs.declared.error.CommitError.{CommitError}
 use Rattle.tdb_model.specs.declared.error.CommitError.TheVariants.{Stopped, TooManyChanges, PartitionNumber, NoPartition, PartitionExists, PartitionTwice, Frozen, RankTooLarge, ChunkTooLong, RingFull, CounterEnd, NoRoom, Memory, Fault}
 use Rattle.tdb_platform.specs.CrashStates.{CrashStates}
@@ -21,7 +18,7 @@ use Rattle.tdb_chunk.specs.StoreMeans.{store_means}
 use Rattle.tdb_chunk.specs.StoreView.{StoreView, store_in}
 use Rattle.tdb_run.specs.Calls.{Calls}
 use Rattle.tdb_run.specs.Ends.{stop_of_commit}
-use Rattle.tdb_run.specs.Opened.{HasNotOpened, InItsState, IsWhyNot, WhereItStands}
+use Rattle.tdb_run.specs.Opened.{HasNotOpened, InItsState, IsWhyNot}
 use Rattle.tdb_run.specs.Opens.{HasNone}
 use Rattle.tdb_run.proofs.OpeningLaws.{begun_by, calls_ran, refused_by}
 use Rattle.tdb_run.proofs.Refusing.{why_refused}

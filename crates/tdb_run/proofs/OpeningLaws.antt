@@ -1,33 +1,27 @@
 -- How a run comes to the store that it opens, by what its calls say.
-use Rattle.std.proofs.Common.{◌≡◌, ◌≢◌, ◌⊎◌, inl, inr, ⊎_elim, ℕ, ◌≤◌, ◌<◌, Bool, true, false, List, [], ◌∷◌, ◌++◌, length, Option, Some, None, Ok, Err, Result, IsTrue, refl, sym, ◌∙◌, ap, subst, arith, append-nil}
+use Rattle.std.proofs.Common.{◌≡◌, inl, inr, ℕ, ◌≤◌, Bool, false, List, [], ◌∷◌, Option, Some, None, Ok, Err, Result, IsTrue, refl, sym, ◌∙◌, ap, subst, arith}
 use Rattle.std.specs.Prelude.{IfErr, IfOk}
 use Rattle.std.specs.Option.{option_map}
 use Rattle.tdb_base.specs.declared.names.PartId.{PartId}
-use Rattle.tdb_base.specs.declared.piece.Place.{Place}
-use Rattle.tdb_base.specs.declared.suite.Suite.{Suite}
-use Rattle.tdb_base.specs.Trace.{IsNumbered, Extends}
+use Rattle.tdb_base.specs.Trace.{IsNumbered}
 use Rattle.tdb_base.proofs.Tracing.{extends_along, extends_itself}
-use Rattle.tdb_append.specs.Put.{slot_place}
 use Rattle.tdb_model.specs.Apply.{History, apply_all}
-use Rattle.tdb_model.specs.Check.{check_commit}
 use Rattle.tdb_model.specs.HasCommitted.{IsBegun, IsCommitted}
 use Rattle.tdb_model.specs.Lookup.{info_of}
 use Rattle.tdb_model.specs.Opening.{opening_changes}
-use Rattle.tdb_model.specs.State.{Partition, State}
-use Rattle.tdb_model.specs.declared.change.Change.{Change}
+use Rattle.tdb_model.specs.State.{Partition}
 use Rattle.tdb_model.specs.declared.change.PartInfo.{PartInfo}
 use Rattle.tdb_platform.specs.CrashStates.{CrashStates, LeavesOnly}
 use Rattle.tdb_platform.specs.Outside.{Anchor, Outside}
 use Rattle.tdb_platform.proofs.Moments.{goes_on_by, started}
 use Rattle.tdb_overlay.specs.Found.{Store}
 use Rattle.tdb_overlay.specs.Growth.{IsSettled}
-use Rattle.tdb_overlay.specs.Log.{IsLog}
 use Rattle.tdb_overlay.specs.Ran.{RanOn}
 use Rattle.tdb_overlay.specs.Reading.{OnlyReads}
 use Rattle.tdb_overlay.specs.Sound.{IsSound}
 use Rattle.tdb_overlay.specs.StoreState.{StoreState}
 use Rattle.tdb_overlay.proofs.OneLog.{log_is_one}
-use Rattle.tdb_overlay.proofs.RanLaws.{ran_itself, ran_reads, ran_then, sound_earlier}
+use Rattle.tdb_overlay.proofs.RanLaws.{ran_itself, ran_reads, ran_then}
 use Rattle.tdb_overlay.proofs.ReadingLaws.{reads_nothing, reads_then}
 use Rattle.tdb_overlay.proofs.SealedPuts.{only_sealed_along, only_sealed_none}
 use Rattle.tdb_chunk.specs.Settled.{RanSettled}
@@ -36,7 +30,7 @@ use Rattle.tdb_chunk.specs.StoreMeans.{store_means}
 use Rattle.tdb_chunk.specs.StoreView.{StoreView, head_in, store_in, written_in}
 use Rattle.tdb_run.specs.Calls.{Calls}
 use Rattle.tdb_run.specs.Opened.{HasNotOpened, HasOpened}
-use Rattle.tdb_run.specs.Opens.{HasBoth, HasNone, HasUserPartitions, IsMade, IsToldMade}
+use Rattle.tdb_run.specs.Opens.{HasNone, IsMade, IsToldMade}
 
 -- what two clauses say of an answer
 pub if_ok_two : {T E : Type 0} (r : Result T E) {P Q R : T → Type 0} → ((x : T) → P x → Q x → R x) → IfOk r P → IfOk r Q → IfOk r R

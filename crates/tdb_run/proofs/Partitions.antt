@@ -32,7 +32,7 @@ use Rattle.tdb_overlay.specs.StoreState.{StoreState}
 use Rattle.tdb_overlay.proofs.LogLaws.{log_state}
 use Rattle.tdb_chunk.specs.StoreMeans.{store_means}
 use Rattle.tdb_run.specs.Opens.{HasBoth, HasUserPartitions, IsMade, MayOpen, Opens}
-use Rattle.tdb_run.specs.Ran.{HasNoStore, HasScript, KeepsPartitions, RunRan}
+use Rattle.tdb_run.specs.Ran.{KeepsPartitions, RunRan}
 use Rattle.tdb_run.specs.declared.status.Status.{Status}
 
 -- the changes of a commit of a run: it makes the partitions, or writes notes

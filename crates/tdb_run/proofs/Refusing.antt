@@ -1,10 +1,8 @@
 -- Why the partitions of a run weren't made.
-use Rattle.std.proofs.Common.{◌≡◌, ◌≢◌, ℕ, ◌<◌, Bool, true, false, List, [], ◌∷◌, Option, Some, None, Err, Result, refl, sym, ◌∙◌, ap, subst, arith}
+use Rattle.std.proofs.Common.{◌≡◌, ◌≢◌, false, Option, Some, None, Err, refl, sym, ◌∙◌, subst, arith}
 use Rattle.std.proofs.lemmas.Bool.{false≢true}
-use Rattle.std.specs.Prelude.{IsTrue}
 use Rattle.tdb_base.specs.declared.piece.Place.{Place}
 use Rattle.tdb_base.specs.declared.suite.Suite.{Suite}
-use Rattle.tdb_base.specs.Trace.{WrittenPiece}
 use Rattle.tdb_model.specs.Apply.{History, made}
 use Rattle.tdb_model.specs.Check.{check_commit}
 use Rattle.tdb_model.specs.HasCommitted.{CommitCause}

@@ -1,12 +1,12 @@
 -- What the script of a store comes to, in the words of a run.
-use Rattle.std.proofs.Common.{◌≡◌, inl, ℕ, ◌≤◌, List, ◌++◌, IsTrue, refl, sym, ap, subst}
+use Rattle.std.proofs.Common.{◌≡◌, inl, ℕ, ◌≤◌, List, IsTrue, refl, sym, ap, subst}
 use Rattle.tdb_base.specs.Trace.{IsNumbered}
 use Rattle.tdb_model.specs.Apply.{History}
 use Rattle.tdb_model.specs.State.{State}
 use Rattle.tdb_platform.specs.CrashStates.{CrashStates}
 use Rattle.tdb_platform.specs.Outside.{Anchor, Outside}
 use Rattle.tdb_notes.specs.NotesMachine.{Answered, Begins, EndCause, IsAt, IsTold, Runs, Step, Unanswered}
-use Rattle.tdb_notes.specs.Script.{ScriptState, script_at}
+use Rattle.tdb_notes.specs.Script.{script_at}
 use Rattle.tdb_notes.specs.declared.notes.Notes.{Notes}
 use Rattle.tdb_serve.specs.Faults.{TellsStreamFaults}
 use Rattle.tdb_serve.specs.Replies.{Conversation}
@@ -17,16 +17,14 @@ use Rattle.tdb_serve.specs.declared.script_end.ScriptEnd.TheVariants.{Bye, End, 
 use Rattle.tdb_stream.specs.SinkContent.{SinkContent}
 use Rattle.tdb_stream.specs.SourceContent.{SourceContent}
 use Rattle.tdb_overlay.specs.Found.{Store}
-use Rattle.tdb_overlay.specs.Ran.{RanOn}
 use Rattle.tdb_overlay.specs.Sound.{IsSound}
-use Rattle.tdb_overlay.specs.StoreState.{StoreState}
 use Rattle.tdb_overlay.proofs.RanLaws.{sound_earlier}
 use Rattle.tdb_run.specs.Calls.{Calls}
 use Rattle.tdb_run.specs.Conversed.{Conversed, TellsFaults}
 use Rattle.tdb_run.specs.Ends.{status_of_end}
-use Rattle.tdb_run.specs.Scripted.{RanScript, ScriptOver}
+use Rattle.tdb_run.specs.Scripted.{RanScript}
 use Rattle.tdb_run.specs.declared.status.Status.{Status}
-use Rattle.tdb_chunk.specs.Standing.{StandsAt, StoreRan}
+use Rattle.tdb_chunk.specs.Standing.{StoreRan}
 use Rattle.tdb_chunk.specs.StoreMeans.{store_means}
 use Rattle.tdb_chunk.specs.StoreView.{StoreView, store_in}
 

@@ -1,5 +1,5 @@
 -- What the opening of a store and its script come to together.
-use Rattle.std.proofs.Common.{◌≡◌, ◌⊎◌, inl, inr, ⊎_elim, ℕ, ◌≤◌, List, [], ◌++◌, IsTrue, Bool, refl, sym, ◌∙◌, ap, subst, append-nil, append_assoc, arith}
+use Rattle.std.proofs.Common.{◌≡◌, inl, inr, ⊎_elim, ℕ, ◌≤◌, List, [], ◌++◌, IsTrue, Bool, refl, sym, ◌∙◌, subst, append-nil, arith}
 use Rattle.tdb_base.specs.Trace.{IsNumbered}
 use Rattle.tdb_base.proofs.Tracing.{extends_along}
 use Rattle.tdb_model.specs.Apply.{History}
@@ -11,19 +11,18 @@ use Rattle.tdb_serve.proofs.Conversing.{no_conversation}
 use Rattle.tdb_stream.specs.SourceContent.{SourceContent}
 use Rattle.tdb_overlay.specs.Found.{Store}
 use Rattle.tdb_overlay.specs.Ran.{RanOn}
-use Rattle.tdb_overlay.specs.Reading.{OnlyReads}
 use Rattle.tdb_overlay.specs.Sound.{IsSound}
 use Rattle.tdb_overlay.specs.StoreState.{StoreState}
 use Rattle.tdb_overlay.proofs.RanLaws.{ran_then, sound_earlier}
 use Rattle.tdb_overlay.proofs.SealedPuts.{only_sealed_along}
 use Rattle.tdb_recover.specs.Premises.{Premises}
 use Rattle.tdb_chunk.specs.Settled.{RanSettled}
-use Rattle.tdb_chunk.specs.StoreView.{StoreView, store_in}
+use Rattle.tdb_chunk.specs.StoreView.{StoreView}
 use Rattle.tdb_run.specs.Calls.{Calls}
 use Rattle.tdb_run.specs.Ends.{status_of_stop}
-use Rattle.tdb_run.specs.Opened.{HasNotOpened, HasOpened, IsWhyNot, OverLogs}
+use Rattle.tdb_run.specs.Opened.{HasNotOpened, HasOpened, IsWhyNot}
 use Rattle.tdb_run.specs.Ran.{HasScript, RunRan, StopsOf}
-use Rattle.tdb_run.specs.Scripted.{RanScript, ScriptOver}
+use Rattle.tdb_run.specs.Scripted.{RanScript}
 use Rattle.tdb_run.specs.declared.opening.NotOpened.{NotOpened}
 use Rattle.tdb_run.specs.declared.status.Status.{Status}
 use Rattle.tdb_run.specs.declared.status.Status.TheVariants.{Done}

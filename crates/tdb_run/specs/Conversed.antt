@@ -1,5 +1,5 @@
 -- What a run took from its source and put into its sink, up to its last line.
-use Rattle.std.specs.Prelude.{◌≡◌, ◌⊎◌, ◌++◌, ℕ, List, [], IsTrue}
+use Rattle.std.specs.Prelude.{◌≡◌, ◌⊎◌, [], IsTrue}
 use Rattle.tdb_base.specs.Rose.{Rose}
 use Rattle.tdb_platform.specs.Outside.{Outside}
 use Rattle.tdb_serve.specs.Replies.{Conversation, HasAnswered}

@@ -1,4 +1,4 @@
-use Rattle.std.proofs.Common.{inl, inr, ⊎_elim, refl}
+use Rattle.std.proofs.Common.{⊎_elim, refl}
 use Rattle.std.specs.FinMap.{get}
 use Rattle.tdb_run.proofs.OpeningLaws.{made_there, none_there, none_told, told_there}
 use Rattle.tdb_run.proofs.opening.user_partitions.Goals as goal

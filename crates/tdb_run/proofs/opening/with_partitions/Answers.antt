@@ -1,4 +1,4 @@
-use Rattle.std.proofs.Common.{inl, List, ℕ, refl, sym, subst, ap, ◌∙◌, [], append-nil}
+use Rattle.std.proofs.Common.{inl, refl, sym, subst, ap, ◌∙◌, [], append-nil}
 use Rattle.tdb_append.specs.Put.{slot_place}
 use Rattle.tdb_model.specs.Apply.{History}
 use Rattle.tdb_overlay.specs.Growth.{IsSettled}
