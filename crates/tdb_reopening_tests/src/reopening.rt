@@ -2,7 +2,7 @@
 use sha2::{Digest as _, Sha256};
 use std::alloc::Global;
 use std::test::Fail;
-use tdb_base::{Damage, Digest, Place};
+use tdb_base::{Damage, Digest, Place, Suite};
 use tdb_platform::{Answer, DEVICE_LIMIT, HostilePlatform, MemoryPlatform, Platform};
 use tdb_run::{Finding, Status, Success};
 use tdb_run_rows::{DONE, Outcome, SCRIPT, run_on, run_over_memory, run_with};
@@ -287,7 +287,11 @@ fn a_note_is_found_by_the_next_run(rt: HostRuntime) -> Result<(), Fail> {
 fn a_formatted_store_is_opened(rt: HostRuntime) -> Result<(), Fail> {
     let alloc = rt.alloc();
     let end = run_over_memory(alloc, &["format", "plain", "16"], b"", [&[], &[], &[]])?;
-    assert_eq!(rt; end.status, Status::Done(Success::Formatted(16)));
+    let formatted = Success::Formatted {
+        suite: Suite::Plain,
+        segments: 16,
+    };
+    assert_eq!(rt; end.status, Status::Done(formatted));
     assert!(rt; end.sink.bytes() == b"formatted plain 16\n".as_slice());
     let mut end = run_with(alloc, &RUN, b"", end.platform, [&[], &[]])?;
     assert_eq!(rt; end.status, Status::End);

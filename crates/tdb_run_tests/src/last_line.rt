@@ -1,6 +1,6 @@
 // The last line of a run, by its status.
 use std::test::Fail;
-use tdb_base::{Damage, Digest, NoRoom, Place};
+use tdb_base::{Damage, Digest, NoRoom, Place, Suite};
 use tdb_run::{Finding, Refusal, Status, Success, put_last_line};
 use tdb_stream::MemorySink;
 
@@ -25,7 +25,10 @@ fn each_status_has_its_line(rt: HostRuntime) -> Result<(), Fail> {
     let table: [(Status, &[u8]); 10] = [
         (Status::Done(Success::Script), b""),
         (
-            Status::Done(Success::Formatted(4096)),
+            Status::Done(Success::Formatted {
+                suite: Suite::Plain,
+                segments: 4096,
+            }),
             b"formatted plain 4096\n",
         ),
         (

@@ -13,3 +13,5 @@ mod last_line;
 mod reference;
 #[cfg(test)]
 mod running;
+#[cfg(test)]
+mod suites;

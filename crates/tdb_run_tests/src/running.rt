@@ -1,5 +1,6 @@
 // Whole runs in memory, against the bytes that an independent model of the formats gives for them.
 use std::test::Fail;
+use tdb_base::Suite;
 use tdb_first_path::{
     FIRST_TEXT, NOTE, NOTE_LIST, OPENING_LIST, SECOND_TEXT, TABLE, THIRD_MARK, THIRD_TEXT,
 };
@@ -49,7 +50,7 @@ fn each_failing_call_ends_a_run_by_its_status(rt: HostRuntime) -> Result<(), Fai
         let fail = [number];
         // A run makes so many calls of the platform, the source and the sink, and none after them.
         for (failing, calls, status) in [
-            ([fail.as_slice(), &[], &[]], 14, Status::PlatformFault),
+            ([fail.as_slice(), &[], &[]], 17, Status::PlatformFault),
             ([&[], fail.as_slice(), &[]], 1, Status::SourceFault),
             ([&[], &[], fail.as_slice()], 4, Status::SinkFault),
         ] {
@@ -90,15 +91,20 @@ fn a_store_has_as_many_segments_as_the_words_say(rt: HostRuntime) -> Result<(), 
 #[test]
 fn words_and_scripts_end_by_their_status_and_line(rt: HostRuntime) -> Result<(), Fail> {
     let alloc = rt.alloc();
-    let formatted = Status::Done(Success::Formatted(16));
+    let formatted = |suite| {
+        Status::Done(Success::Formatted {
+            suite,
+            segments: 16,
+        })
+    };
     let unformatted = Status::AnchorCount { formatted: false };
-    let table: [(&[&str], &[u8], Status, &[u8]); 18] = [
+    let table: [(&[&str], &[u8], Status, &[u8]); 20] = [
         (&[], b"", Status::Usage, b"usage\n"),
         (&["start", "plain"], b"", Status::Usage, b"usage\n"),
         (&["start", "plain", "15"], b"", Status::Usage, b"usage\n"),
         (&["start", "plain", "016"], b"", Status::Usage, b"usage\n"),
         (&["start", "plain", "4097"], b"", Status::Usage, b"usage\n"),
-        (&["start", "aes128", "16"], b"", Status::Usage, b"usage\n"),
+        (&["start", "aes192", "16"], b"", Status::Usage, b"usage\n"),
         (&["format", "plain"], b"", Status::Usage, b"usage\n"),
         (&["format", "plain", "4097"], b"", Status::Usage, b"usage\n"),
         (&["run", "16"], b"", Status::Usage, b"usage\n"),
@@ -107,9 +113,16 @@ fn words_and_scripts_end_by_their_status_and_line(rt: HostRuntime) -> Result<(),
         (
             &["format", "plain", "16"],
             b"quit\n",
-            formatted,
+            formatted(Suite::Plain),
             b"formatted plain 16\n",
         ),
+        (
+            &["format", "aes256", "16"],
+            b"quit\n",
+            formatted(Suite::Aes256),
+            b"formatted aes256 16\n",
+        ),
+        (&["start", "aes128", "16"], b"", Status::End, b"end\n"),
         (&["start", "plain", "4096"], b"", Status::End, b"end\n"),
         (&["start", "plain", "16"], b"quit", Status::End, b"end\n"),
         (
