@@ -341,7 +341,7 @@ module _ {D : Type 0} (outside : D → Outside) (crash_states : D → CrashState
           ran = inl (ran_new (unread given.tells) end o.0.maybe o.0.ran);
         } in
         let is_why = why_after first_state end (one given.tells) why
-            (λ is. zero is (at_first end calls store history from given suite_is).tells) (why_before (unread given.tells) end why o.1) in
+        (λ is. zero is (at_first end calls store history from given suite_is).tells) (why_before (unread given.tells) end why o.1) in
         subst (λ (t : Store). NotOpens t platform end from × IsWhyNot t (outside platform) (outside end) from (after_format why))
         (it_is end calls store history from given suite_is)
         (subst (λ (x : StoreState). NotOpens (store_under secret suite) platform end x

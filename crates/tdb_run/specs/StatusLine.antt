@@ -38,7 +38,8 @@ refusal_text Counter = codes "refused counter" ++ 10 ∷ []
 
 -- what was found wrong on the device
 abbrev pub finding_text : Finding → List ℕ
-finding_text (Tampered damage) = codes "tampered " ++ decimal damage.place.0 ++ codes " " ++ hex damage.expected.0 ++ codes " " ++ hex damage.found.0 ++ 10 ∷ []
+finding_text (Tampered damage) =
+    codes "tampered " ++ decimal damage.place.0 ++ codes " " ++ hex damage.expected.0 ++ codes " " ++ hex damage.found.0 ++ 10 ∷ []
 finding_text (Form place) = codes "form " ++ decimal place.0 ++ 10 ∷ []
 
 -- what `format` puts when it is done

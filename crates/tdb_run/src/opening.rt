@@ -75,7 +75,8 @@ pub(crate) fn open_store<P: Platform>(
     // a store that isn't opened was only read, but for a fault
     ensures only_read { IfErr result (λ e. e.1 ≢ stops.PlatformFault
         → OnlyReads P.outside P.crash_states platform e.0 × IsSettled P.outside P.crash_states e.0) }
-    ensures unformatted { IfErr result (λ e. e.1 ≡ stops.Unformatted → IsTrue (P.outside platform).tells → (P.outside platform).anchor.0 ≡ 0) }
+    ensures unformatted { IfErr result (λ e. e.1 ≡ stops.Unformatted → IsTrue (P.outside platform).tells
+        → (P.outside platform).anchor.0 ≡ 0) }
     ensures unformatted_ok { IfOk result (λ s. IsTrue (P.outside platform).tells → (P.outside platform).anchor.0 ≢ 0) }
     ensures unformatted_always { IfErr result (λ e. IsTrue (P.outside platform).tells → (P.outside platform).anchor.0 ≡ 0
         → (e.1 ≡ stops.Unformatted) ⊎ (e.1 ≡ stops.PlatformFault)) }

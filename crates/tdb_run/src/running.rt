@@ -129,7 +129,8 @@ fn start<S: Source, K: Sink, P: Platform>(
     requires least { 16 ≤ segments }
     requires most { segments ≤ 4096 }
     ensures carried_out { (words : List (List ℕ)) → IsStart words suite segments → runs.CarriedOut P.outside P.crash_states words
-        secret.now (S.content source.old) (S.content source.new) (K.content sink.old) (K.content sink.new) platform result.platform result.status }
+        secret.now (S.content source.old) (S.content source.new) (K.content sink.old) (K.content sink.new) platform result.platform
+        result.status }
 {
     match new_store(alloc, platform, secret, suite, segments) {
         Ok(store) => answer_script(alloc, source, sink, store),
