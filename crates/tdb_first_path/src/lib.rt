@@ -1,22 +1,9 @@
 //! What the first path of a store writes, for the tests: a checkpoint, the commit that makes partitions 1
-//! and 2, and that of a note, in a store of 16 segments, under a secret of 32 zero bytes. Here it is without a
-//! cipher, and under each cipher in a module of its own.
+//! and 2, and that of a note, in a store of 16 segments without a cipher, under a secret of 32 zero bytes.
 //!
 //! It stands on nothing. The bytes are those that an independent model of the formats gives, and no
 //! output of the database: a test that compares with them compares with something from outside.
 #![tactic(auto)]
-
-pub mod aes128;
-pub mod aes256;
-
-/// A piece of a device.
-#[derive(Clone, Copy, Debug)]
-pub struct Piece {
-    /// The place of its first byte.
-    pub place: usize,
-    /// Its bytes.
-    pub bytes: &'static [u8],
-}
 
 /// The text of the checkpoint.
 pub const FIRST_TEXT: [u8; 256] =

@@ -6,6 +6,10 @@
 #![tactic(auto)]
 
 #[cfg(test)]
+mod aes128;
+#[cfg(test)]
+mod aes256;
+#[cfg(test)]
 mod command;
 #[cfg(test)]
 mod last_line;

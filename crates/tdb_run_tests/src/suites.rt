@@ -1,10 +1,19 @@
 // Whole runs in memory under each cipher, against the bytes that an independent model of the formats gives for them, and
 // what the device shows of the notes.
+use crate::{aes128, aes256};
 use std::alloc::Global;
 use std::test::Fail;
-use tdb_first_path::{Piece, aes128, aes256};
 use tdb_platform::Platform;
 use tdb_run_rows::{DONE, REPLIES, SCRIPT, run_over_memory, run_with};
+
+/// A piece of a device.
+#[derive(Clone, Copy, Debug)]
+pub struct Piece {
+    /// The place of its first byte.
+    pub place: usize,
+    /// Its bytes.
+    pub bytes: &'static [u8],
+}
 
 // The bytes of a device that has these pieces and ends with the last one, all others zero.
 fn device_of(alloc: Global, pieces: &[Piece]) -> Result<Vec<u8>, Fail> {

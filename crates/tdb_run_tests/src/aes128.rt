@@ -1,6 +1,6 @@
 //! What the first path of a store writes under AES with keys of 16 bytes, and where.
 
-use crate::Piece;
+use crate::suites::Piece;
 
 /// Every piece of the device, in the order of their places. All other bytes are zero, and the device ends with the last piece.
 pub const PIECES: [Piece; 7] = [
