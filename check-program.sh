@@ -108,7 +108,29 @@ expect "the front of the device" TDBCMT01 "$(head -c 8 device)"
 expect "the note" hello "$(tail -c +262993 device | head -c 5)"
 whole "a new store"
 
+# In each suite device and anchor are byte for byte those that an independent model of the formats gives. A later run
+# finds the suite and the note by itself.
+# first_path SUITE DEVICE ANCHOR: the digest of the device, and the anchor
+first_path() {
+    new_folder
+    head -c 32 /dev/zero >secret
+    tdb start "$1" 16 <script
+    answers "a store under $1" 0 "$stored"
+    expect "the device under $1" "$2" "$(sha256sum <device | head -c 64)"
+    expect "the anchor under $1" "$3" "$(od -An -v -tx1 anchor | tr -d ' \n')"
+    before=$(sha256sum device anchor)
+    whole "a store under $1"
+}
+first_path plain cab145441b0b7cc8bfa1e382ecabe0856ad3a948fed7467d0d6cddecee4460d8 \
+    0000000000000003e61d82016b9524906c1d194354bbfb8ac84fe34fec2961617f0c4041f13283e2
+first_path aes128 a69ae82f7f6d0df8e0f7a90ebdd4ae66c0d61be66cb30e0b6cc406785ebab267 \
+    0000000000000003c33371a907ef6bb1ec664843d10678bbffb477756ad24ecb65677998cca892a0
+first_path aes256 dd260e892eca912ef1817ff27a019b1dff494a2eedcc5dffa97e09453d96fad3 \
+    00000000000000036fabdbd4828c747a12ce187937824df691af4c9e15310e54381f1ba2374752d9
+expect "the note's text under a cipher" 0 "$(grep -c hello device || true)"
+
 # A store isn't made twice, and files that are there aren't emptied.
+new_store
 tdb start plain 16 <script
 answers "a second start" 3 "already formatted"
 whole "a second start"
