@@ -219,10 +219,11 @@ run_of_run outside crash_states store c old new from status r =
     (λ some. are_both r.opening ((r.added ++ r.own) ++ r.maybe) (opens_of_run store.suite from.chunks some.0 r.opening some.1)
     (subst AreOfRun (sym (append_assoc r.added r.own r.maybe))
     (⊎_elim
-    (λ script. are_both r.added (r.own ++ r.maybe)
-    (session_of_run (store_means outside crash_states) script.first (script_at some.0) c.lines c.replies r.added script.mid script.final
-    script.session)
-    (next_of_run (store_means outside crash_states) c script.mid script.last script.final r.own r.maybe script.end script.next))
+    (λ begun. are_both r.added (r.own ++ r.maybe)
+    (session_of_run (store_means outside crash_states) begun.script.first (script_at some.0) c.lines c.replies r.added begun.script.mid
+    begun.script.final begun.script.session)
+    (next_of_run (store_means outside crash_states) c begun.script.mid begun.script.last begun.script.final r.own r.maybe
+    begun.script.end begun.script.next))
     (λ made. are_both r.added (r.own ++ r.maybe) (none_of_run r.added made.1.no_more.0)
     (are_both r.own r.maybe (none_of_run r.own made.1.no_more.1) (none_of_run r.maybe made.1.no_more.2)))
     some.2)))

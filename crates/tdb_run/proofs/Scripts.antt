@@ -8,7 +8,7 @@ use Rattle.tdb_platform.specs.Outside.{Anchor, Outside}
 use Rattle.tdb_notes.specs.NotesMachine.{Answered, Begins, EndCause, IsAt, IsTold, Runs, Step, Unanswered}
 use Rattle.tdb_notes.specs.Script.{script_at}
 use Rattle.tdb_notes.specs.declared.notes.Notes.{Notes}
-use Rattle.tdb_serve.specs.Faults.{TellsStreamFaults}
+use Rattle.tdb_serve.specs.Faults.{Keeps, TellsStreamFaults}
 use Rattle.tdb_serve.specs.Replies.{Conversation}
 use Rattle.tdb_serve.specs.Running.{ScriptRan}
 use Rattle.tdb_serve.specs.Served.{Served}
@@ -33,10 +33,10 @@ module _ {D : Type 0} (outside : D → Outside) (crash_states : D → CrashState
   abbrev pub conversed : (came gone : SourceContent) (before after : SinkContent) (old new : Notes (StoreView D)) (end : ScriptEnd)
       → Served (Answered (store_means outside crash_states)) (Unanswered (store_means outside crash_states)) came gone before after
       old new end
-      → Conversed came gone before after (status_of_end end)
-  conversed came gone before after old new end s = record {
+      → Keeps came gone before after → Conversed came gone before after (status_of_end end)
+  conversed came gone before after old new end s keeps = record {
     conversation = s.conversation;
-    ended = inl (record { end = end; ends_so = refl; answered = s.ended; held = s.held });
+    ended = inl (record { end = end; ends_so = refl; answered = s.ended; held = s.held; keeps = keeps });
   }
 
   -- what it told of faults
@@ -95,6 +95,7 @@ module _ {D : Type 0} (outside : D → Outside) (crash_states : D → CrashState
             next = session.2;
             given_back = refl;
           };
+          began = refl;
         }
 
     -- a script over a machine that was made of a store
@@ -121,14 +122,14 @@ module _ {D : Type 0} (outside : D → Outside) (crash_states : D → CrashState
         → IsAt (store_means outside crash_states) old (script_at chunks))
         → (s : Served (Answered (store_means outside crash_states)) (Unanswered (store_means outside crash_states)) came gone before after
         old new end)
-        → ScriptRan (IsTold (store_means outside crash_states)) (IsAt (store_means outside crash_states))
+        → Keeps came gone before after → ScriptRan (IsTold (store_means outside crash_states)) (IsAt (store_means outside crash_states))
         (Step (store_means outside crash_states)) (Begins (store_means outside crash_states)) (Runs (store_means outside crash_states))
         s.conversation old new end
         → (talk : Conversed came gone before after status) × RanScript outside crash_states talk.conversation status store platform
-    script_answered came gone before after store old new end status platform same ends_so back at s r =
+    script_answered came gone before after store old new end status platform same ends_so back at s keeps r =
         subst (λ (t : Status). (talk : Conversed came gone before after t)
         × RanScript outside crash_states talk.conversation t store platform)
         (sym ends_so)
         (subst (λ (p : D). (talk : Conversed came gone before after (status_of_end end))
         × RanScript outside crash_states talk.conversation (status_of_end end) store p) (sym back)
-        (conversed came gone before after old new end s, ran_script came gone s.conversation store old new end same at r))
+        (conversed came gone before after old new end s keeps, ran_script came gone s.conversation store old new end same at r))

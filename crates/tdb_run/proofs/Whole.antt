@@ -1,5 +1,5 @@
 -- What the opening of a store and its script come to together.
-use Rattle.std.proofs.Common.{◌≡◌, inl, inr, ⊎_elim, ℕ, ◌≤◌, List, [], ◌++◌, IsTrue, Bool, refl, sym, ◌∙◌, subst, append-nil, arith}
+use Rattle.std.proofs.Common.{◌≡◌, inl, inr, ⊎_elim, ℕ, ◌≤◌, List, [], ◌++◌, IsTrue, Bool, refl, sym, ◌∙◌, ap, subst, append-nil, arith}
 use Rattle.tdb_base.specs.Trace.{IsNumbered}
 use Rattle.tdb_base.proofs.Tracing.{extends_along}
 use Rattle.tdb_model.specs.Apply.{History}
@@ -17,11 +17,11 @@ use Rattle.tdb_overlay.proofs.RanLaws.{ran_then, sound_earlier}
 use Rattle.tdb_overlay.proofs.SealedPuts.{only_sealed_along}
 use Rattle.tdb_recover.specs.Premises.{Premises}
 use Rattle.tdb_chunk.specs.Settled.{RanSettled}
-use Rattle.tdb_chunk.specs.StoreView.{StoreView}
+use Rattle.tdb_chunk.specs.StoreView.{StoreView, store_in}
 use Rattle.tdb_run.specs.Calls.{Calls}
 use Rattle.tdb_run.specs.Ends.{status_of_stop}
 use Rattle.tdb_run.specs.Opened.{HasNotOpened, HasOpened, IsWhyNot}
-use Rattle.tdb_run.specs.Ran.{HasScript, RunRan, StopsOf}
+use Rattle.tdb_run.specs.Ran.{HasOwnScript, RunRan, StopsOf}
 use Rattle.tdb_run.specs.Scripted.{RanScript}
 use Rattle.tdb_run.specs.declared.opening.NotOpened.{NotOpened}
 use Rattle.tdb_run.specs.declared.status.Status.{Status}
@@ -127,8 +127,13 @@ module _ {D : Type 0} (outside : D → Outside) (crash_states : D → CrashState
           course = inl (
             h.state,
             h.opens,
-            inl (subst (λ (state : State). HasScript outside crash_states c status state part.added part.own
-                part.maybe new) h.chunks part.script),
+            inl (subst (λ (state : State). HasOwnScript outside crash_states store c old new status state h.opening part.added part.own
+                part.maybe) h.chunks (record {
+                  script = part.script;
+                  same = ap store_in part.began ∙ h.same;
+                  since = subst (λ (one : StoreView D). RanSettled outside crash_states store old h.opening [] one.platform)
+                      (sym part.began) h.ran;
+                })),
           );
         };
         stops = inl (leaves outside crash_states counts numbered store old new history (h.opening ++ (part.added ++ part.own)) part.maybe
@@ -168,7 +173,7 @@ module _ {D : Type 0} (outside : D → Outside) (crash_states : D → CrashState
       added = [];
       own = [];
       maybe = h.maybe;
-      ran = h.ran;
+      ran = ⊎_elim (λ ran. inl ran) (λ read. inr (read.0, read.1, (why, refl))) h.ran;
       course = inr (record {
         why = why;
         ends_so = refl;
@@ -181,5 +186,5 @@ module _ {D : Type 0} (outside : D → Outside) (crash_states : D → CrashState
     stops = ⊎_elim
         (λ ran. inl (leaves outside crash_states counts numbered store old new history [] h.maybe from
         (sound_at_end secret store history from old new tells p) p.log ran))
-        (λ read. inr read) h.ran;
+        (λ read. inr (read.0, read.1, (why, refl))) h.ran;
   }

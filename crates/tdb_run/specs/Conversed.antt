@@ -2,6 +2,7 @@
 use Rattle.std.specs.Prelude.{◌≡◌, ◌⊎◌, [], IsTrue}
 use Rattle.tdb_base.specs.Rose.{Rose}
 use Rattle.tdb_platform.specs.Outside.{Outside}
+use Rattle.tdb_serve.specs.Faults.{Keeps}
 use Rattle.tdb_serve.specs.Replies.{Conversation, HasAnswered}
 use Rattle.tdb_serve.specs.Served.{HasHeld}
 use Rattle.tdb_serve.specs.declared.script_end.ScriptEnd.{ScriptEnd}
@@ -17,6 +18,7 @@ pub record EndedAsScript {came gone : SourceContent} (c : Conversation came gone
   pub ends_so : status ≡ status_of_end end
   pub answered : HasAnswered c end
   pub held : IsTrue before.tells → HasHeld c before.held after.held end
+  pub keeps : Keeps came gone before after
 
 -- how a run ends that takes nothing from the source
 abbrev pub IsAtOnce : Status → Type 0

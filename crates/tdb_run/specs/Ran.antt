@@ -23,7 +23,7 @@ use Rattle.tdb_overlay.specs.StoreState.{StoreState}
 use Rattle.tdb_overlay.specs.WellFormedLog.{IsKeptLog, IsWellFormedLog}
 use Rattle.tdb_chunk.specs.Settled.{RanSettled}
 use Rattle.tdb_chunk.specs.StoreMeans.{store_means}
-use Rattle.tdb_chunk.specs.StoreView.{StoreView}
+use Rattle.tdb_chunk.specs.StoreView.{StoreView, store_in}
 use Rattle.tdb_run.specs.Ends.{status_of_end, status_of_stop}
 use Rattle.tdb_run.specs.Opened.{IsWhyNot}
 use Rattle.tdb_run.specs.Opens.{HasUserPartitions, MayOpen, Opens}
@@ -51,6 +51,13 @@ pub record HasScript {D : Type 0} (outside : D → Outside) (crash_states : D �
       c mid last final own maybe end
   pub given_back : last.store.platform ≡ new
 
+-- It did so over this store, from where the run's own calls had brought that.
+pub record HasOwnScript {D : Type 0} (outside : D → Outside) (crash_states : D → CrashStates) (store : Store) {came gone : SourceContent}
+    (c : Conversation came gone) (old new : D) (status : Status) (state : State) (opening added own maybe : History) : Type 0 where
+  pub script : HasScript outside crash_states c status state added own maybe new
+  pub same : store_in script.first.store ≡ store
+  pub since : RanSettled outside crash_states store old opening [] script.first.store.platform
+
 -- It made a store without a script.
 pub record HasNewStore {came gone : SourceContent} (c : Conversation came gone) (status : Status) (suite : Suite) (segments : ℕ)
     (added own maybe : History) : Type 0 where
@@ -68,6 +75,10 @@ pub record HasNoStore {came gone : SourceContent} (store : Store) (c : Conversat
   pub no_more : (opening ≡ []) × (added ≡ []) × (own ≡ [])
   pub may_open : MayOpen store.suite from.chunks maybe
 
+-- it ended as one that didn't open its store
+abbrev pub IsNotOpened : Status → Type 0
+IsNotOpened status = (why : NotOpened) × (status ≡ status_of_stop why)
+
 -- Behind the log that the anchor had at the start there was committed: what opens the store, the commits of the lines in their order,
 -- and at most one more.
 pub record RunRan {D : Type 0} (outside : D → Outside) (crash_states : D → CrashStates) (store : Store) {came gone : SourceContent}
@@ -77,9 +88,9 @@ pub record RunRan {D : Type 0} (outside : D → Outside) (crash_states : D → C
   pub own : History
   pub maybe : History
   pub ran : RanSettled outside crash_states store old (opening ++ (added ++ own)) maybe new
-      ⊎ (OnlyReads outside crash_states old new × (opening ++ ((added ++ own) ++ maybe) ≡ []))
+      ⊎ (OnlyReads outside crash_states old new × (opening ++ ((added ++ own) ++ maybe) ≡ []) × IsNotOpened status)
   pub course : ((state : State) × Opens store.suite from.chunks opening state
-      × (HasScript outside crash_states c status state added own maybe new
+      × (HasOwnScript outside crash_states store c old new status state opening added own maybe
       ⊎ ((segments : ℕ) × HasNewStore c status store.suite segments added own maybe)))
       ⊎ HasNoStore store c (outside old) (outside new) from status opening added own maybe
 
@@ -117,7 +128,7 @@ abbrev pub StopsOf : {D : Type 0} → (outside : D → Outside) → (crash_state
     → RunRan outside crash_states store c old new from status → Type 0
 StopsOf outside crash_states store c old new history from status r =
     Leaves outside crash_states store old new history (r.opening ++ (r.added ++ r.own)) r.maybe
-    ⊎ (OnlyReads outside crash_states old new × (r.opening ++ ((r.added ++ r.own) ++ r.maybe) ≡ []))
+    ⊎ (OnlyReads outside crash_states old new × (r.opening ++ ((r.added ++ r.own) ++ r.maybe) ≡ []) × IsNotOpened status)
 
 -- Where partitions 1 and 2 were both made and no copies, or neither was there, it is so in each state that a first part of these commits
 -- leads to.

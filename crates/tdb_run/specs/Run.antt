@@ -69,3 +69,4 @@ pub record RunOutcome {D : Type 0} (outside : D → Outside) (crash_states : D �
   pub middle : SinkContent
   pub carried_out : CarriedOut outside crash_states words secret came gone before middle old new meant
   pub last_line : EndsWith middle after meant status
+  pub tells : after.tells ≡ middle.tells

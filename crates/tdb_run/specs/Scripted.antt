@@ -1,5 +1,5 @@
 -- What a script came to over a store that stood at a log.
-use Rattle.std.specs.Prelude.{◌++◌}
+use Rattle.std.specs.Prelude.{◌≡◌, ◌++◌}
 use Rattle.tdb_model.specs.Apply.{History}
 use Rattle.tdb_platform.specs.CrashStates.{CrashStates}
 use Rattle.tdb_platform.specs.Outside.{Outside}
@@ -21,6 +21,7 @@ pub record ScriptOver {D : Type 0} (outside : D → Outside) (crash_states : D �
   pub maybe : History
   pub ran : RanOn outside crash_states (store_in old) old.platform (added ++ own) maybe new
   pub script : HasScript outside crash_states c status last.chunks added own maybe new
+  pub began : script.first.store ≡ old
 
 -- the same of each log that it stood at, where the trace has no collision and no forgery at the end
 abbrev pub RanScript : {D : Type 0} → (D → Outside) → (D → CrashStates) → {came gone : SourceContent} → Conversation came gone → Status

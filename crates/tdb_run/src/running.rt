@@ -62,7 +62,7 @@ pub fn run<S: Source, K: Sink, P: Platform>(
     ensures unformatted_always { IsRun (texts words.now) → IsTrue (P.outside platform).tells → (P.outside platform).anchor.0 ≡ 0
         → (result.status ≡ AnchorCount false) ⊎ (result.status ≡ PlatformFault) ⊎ (result.status ≡ SinkFault) }
 
-    // A new store without a script is what its words say.
+    // A new store without a script is told with the suite and the number of its words.
     ensures formatted { (suite : Suite) (segments : ℕ) → result.status ≡ Done (Formatted suite segments)
         → IsFormat (texts words.now) suite segments }
     ensures scripts { result.status ≡ Done Script → (suite : Suite) (segments : ℕ) → IsFormat (texts words.now) suite segments → ⊥ }

@@ -3,7 +3,7 @@
 use crate::suites::Piece;
 
 /// Every piece of the device, in the order of their places. All other bytes are zero, and the device ends with the last piece.
-pub const PIECES: [Piece; 7] = [
+pub const PIECES: &[Piece] = &[
     Piece {
         place: 0,
         bytes: FIRST_TEXT,

@@ -38,7 +38,7 @@ fn a_note_is_committed_and_found_under_each_cipher(rt: HostRuntime) -> Result<()
         assert!(rt; end.sink.bytes() == REPLIES, "{suite}");
         assert!(rt; end.platform.anchor()? == (3, mark), "{suite}");
         assert!(rt;
-            end.platform.bytes() == device_of(alloc, &pieces)?.as_slice(),
+            end.platform.bytes() == device_of(alloc, pieces)?.as_slice(),
             "{suite}"
         );
 

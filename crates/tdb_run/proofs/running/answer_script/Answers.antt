@@ -7,4 +7,4 @@ returns-clause-answered g c =
     (g.S.Source.content c.args.source.now) (g.S.Source.content c.serve_notes-end.new.source) (g.K.Sink.content c.args.sink.now)
     (g.K.Sink.content c.serve_notes-end.new.sink) c.args.store c.new-notes.result c.serve_notes-end.new.notes c.serve_notes-end.result
     c.status_of.result c.close.result c.new-notes.ensures.store c.status_of.ensures c.close.ensures.platform c.new-notes.ensures.at
-    c.serve_notes-end.ensures.served.0 c.serve_notes-end.ensures.served.1
+    c.serve_notes-end.ensures.served.0 c.serve_notes-end.ensures.keeps c.serve_notes-end.ensures.served.1
