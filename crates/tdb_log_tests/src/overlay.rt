@@ -1,5 +1,5 @@
 //! Keys, overlays and fetches against values from outside.
-ghost use Rattle.std.specs.Prelude.{◌≡◌, IfOk};
+ghost use Rattle.std.specs.Prelude.{◌≡◌, ◌≤◌, IfOk};
 ghost use Rattle.tdb_list.specs.ChangeList.{IsList};
 ghost use Rattle.tdb_overlay.specs.Reserving.{IsReserved};
 
@@ -271,7 +271,8 @@ fn reserve_again(
     count: u64,
     entries: &[Entry],
 ) -> Result<Reserved, AllocError>
-    requires { IsList entries.now }
+    requires list { IsList entries.now }
+    requires some { 1 ≤ count }
     ensures stays { overlay.new ≡ overlay.old }
     ensures ready { IfOk result (λ reserved. IsReserved overlay.old reserved) }
 {
@@ -304,6 +305,9 @@ fn takes_in_as_noted(
     count: u64,
     list: (Entry, Entry, Entry),
 ) -> Result<bool, AllocError> {
+    if count < 1 {
+        return Ok(false);
+    }
     let (first, second, third) = list;
     if !(first.is_well_formed() && second.is_well_formed() && third.is_well_formed()) {
         return Ok(false);
