@@ -85,8 +85,12 @@ pub fn fetch_text<P: Platform>(
     ensures tampered { (damage : Damage) → result ≡ Err (FetchError.Tampered damage) → (damage.place ≡ record { 0 = slot_place count }) × (damage.expected ≡ mark.now)
         × (IsTrue (P.outside platform.old).tells → (bytes : List ℕ) × ((P.outside platform.new).trace ≡ with_read (P.outside platform.old).trace (slot_place count) 256 bytes) × (sha256 bytes ≡ damage.found.0) × ((damage.found ≢ mark.now) ⊎ (length bytes < 256))) }
     ensures fault { result ≡ Err FetchError.Fault → Rose (P.outside platform.old).faults (P.outside platform.new).faults }
+    // an honest device tells no damage where the text stands
+    ensures stands { IsTrue (P.outside platform.old).honest → StandsIn (P.outside platform.old).image (record { place = record { 0 = slot_place count }; length = 256; digest = mark.now }) → (damage : Damage) → result ≢ Err (FetchError.Tampered damage) }
     // with any other answer there was no fault
     ensures quiet { result ≢ Err FetchError.Fault → (P.outside platform.new).faults ≡ (P.outside platform.old).faults }
+    // what failed is in no trace
+    ensures failed { result ≡ Err FetchError.Fault → IsTrue (P.outside platform.old).tells → (P.outside platform.new).trace ≡ (P.outside platform.old).trace }
     ensures unread { result ≡ Err FetchError.Memory → platform.new ≡ platform.old }
     ensures no_memory { result ≢ Err FetchError.Memory }
     ensures settled { IsSettled P.outside P.crash_states platform.old → IsSettled P.outside P.crash_states platform.new }
