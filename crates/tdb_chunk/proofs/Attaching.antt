@@ -1,19 +1,18 @@
 -- A store that was opened on a platform.
-use Rattle.std.proofs.Common.{◌≡◌, List, ℕ, IsTrue, Result, Err, sym, ◌∙◌, ap, subst}
-use Rattle.tdb_base.specs.Trace.{WrittenPiece}
+use Rattle.std.proofs.Common.{◌≡◌, List, ℕ, ◌++◌, IsTrue, Result, Err, sym, ◌∙◌, ap, subst}
 use Rattle.tdb_model.specs.Apply.{History}
 use Rattle.tdb_platform.specs.CrashStates.{CrashStates}
 use Rattle.tdb_platform.specs.Outside.{Anchor, Outside}
 use Rattle.tdb_overlay.specs.Found.{Store}
 use Rattle.tdb_overlay.specs.Log.{IsLog}
 use Rattle.tdb_overlay.specs.Needed.{needed}
-use Rattle.tdb_overlay.specs.Reading.{OnlyReads}
 use Rattle.tdb_overlay.specs.Recovered.{IsRecovered}
 use Rattle.tdb_overlay.specs.StoreState.{StoreState}
 use Rattle.tdb_overlay.specs.declared.recovered.Recovered.{Recovered}
+use Rattle.tdb_recover.specs.Opening.{HasRecovered}
 use Rattle.tdb_recover.specs.Premises.{Premises}
 use Rattle.tdb_recover.specs.declared.error.OpenError.{OpenError}
-use Rattle.tdb_chunk.specs.Standing.{StandsAt}
+use Rattle.tdb_chunk.specs.Attached.{HasAttached}
 use Rattle.tdb_chunk.specs.StoreView.{StoreView, head_in, store_in, written_in}
 
 pub same_error : {T : Type 0} (a b : OpenError) → ◌≡◌ {A = Result T OpenError} (Err a) (Err b) → a ≡ b
@@ -26,28 +25,34 @@ with_secret old new secret other store history last is premises =
     subst (λ (k : List ℕ). Premises old new k store history last) (sym is) premises
 
 module _ {P : Type 0} (outside : P → Outside) (crash_states : P → CrashStates) (s : StoreView P) (old : P)
-    (reads : OnlyReads outside crash_states old s.platform) (secret : List ℕ) (log : Recovered) (keys_are : s.secret ≡ secret)
-    (log_is : s.log ≡ log)
-    (at_head : IsTrue (outside old).tells → (outside old).anchor ≡ (log.head.count, log.head.mark.0))
-    (store : Store) (history : History) (last : StoreState) (given : Premises (outside old) (outside s.platform) secret store history last)
-    (recovered : IsRecovered (needed (outside old).trace.written store (outside old).anchor) store log last) where
-  abbrev Both : List WrittenPiece → Store → Anchor → Recovered → Type 0
-  Both written of anchor kept = IsLog written of anchor history last × IsRecovered (needed written of anchor) of kept last
+    (secret : List ℕ) (log : Recovered) (keys_are : s.secret ≡ secret) (log_is : s.log ≡ log)
+    (at_head : IsTrue (outside old).tells → (outside s.platform).anchor ≡ (log.head.count, log.head.mark.0))
+    (store : Store) (history : History) (from : StoreState) (given : Premises (outside old) (outside s.platform) secret store history from)
+    (recovered : HasRecovered outside crash_states old s.platform store history from log) where
+  abbrev Both : Store → Anchor → Recovered → Type 0
+  Both of anchor kept = IsLog (written_in outside s) of anchor (history ++ recovered.taken) recovered.to
+      × IsRecovered (needed (written_in outside s) of anchor) of kept recovered.to
 
   same : store_in s ≡ store
   same = λ i. record {
     secret = (keys_are ∙ sym given.keys) i;
-    suite = (ap (λ (r : Recovered). r.suite) log_is ∙ recovered.suite) i;
+    suite = (ap (λ (r : Recovered). r.suite) log_is ∙ recovered.knows.suite) i;
   }
 
-  both : Both (written_in outside s) store (log.head.count, log.head.mark.0) log
-  both = subst (λ (a : Anchor). Both (written_in outside s) store a log) (at_head given.tells)
-      (subst (λ (ws : List WrittenPiece). Both ws store (outside old).anchor log) (sym (reads.written given.tells)) (given.log, recovered))
+  both : Both store (log.head.count, log.head.mark.0) log
+  both = subst (λ (a : Anchor). Both store a log) (at_head given.tells) (recovered.log, recovered.knows)
 
-  both_seen : Both (written_in outside s) (store_in s) (head_in s) s.log
-  both_seen = subst (λ (of : Store). Both (written_in outside s) of (head_in s) s.log) (sym same)
-      (subst (λ (r : Recovered). Both (written_in outside s) store (r.head.count, r.head.mark.0) r) (sym log_is) both)
+  both_seen : Both (store_in s) (head_in s) s.log
+  both_seen = subst (λ (of : Store). Both of (head_in s) s.log) (sym same)
+      (subst (λ (r : Recovered). Both store (r.head.count, r.head.mark.0) r) (sym log_is) both)
 
-  -- It stands where the log of the anchor ends.
-  pub attached : (store_in s ≡ store) × StandsAt outside s history last
-  attached = (same, record { log = both_seen.0; knows = both_seen.1 })
+  -- It stands where the log of the anchor ends, or behind the one commit that was taken there.
+  pub attached : HasAttached outside crash_states old store history from s
+  attached = record {
+    taken = recovered.taken;
+    to = recovered.to;
+    takes = recovered.takes;
+    ran = recovered.ran;
+    same = same;
+    stands = record { log = both_seen.0; knows = both_seen.1 };
+  }

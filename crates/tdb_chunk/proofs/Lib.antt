@@ -2,9 +2,9 @@ pub mod Attaching
 pub mod Calling
 pub mod Committing
 pub mod Entries
+pub mod FirstTexts
 pub mod Growing
 pub mod Keeping
-pub mod Knowing
 pub mod Logs
 pub mod Owners
 pub mod Placing
@@ -20,4 +20,3 @@ pub mod StoreCalls
 pub mod StoreCommits
 pub mod StoreReads
 pub mod Unchanged
-pub mod Writing

@@ -1,5 +1,5 @@
 -- What the start of a log on a platform makes of it, whose anchor was told before.
-use Rattle.std.proofs.Common.{◌≡◌, ◌⊎◌, ⊎_elim, ℕ, ◌≤◌, List, [], ◌++◌, Some, Ok, Err, Result, Bool, IsTrue, refl, sym, ◌∙◌, ap, subst}
+use Rattle.std.proofs.Common.{◌≡◌, ⊎_elim, ℕ, ◌≤◌, List, [], Some, Ok, Err, Result, Bool, IsTrue, refl, sym, subst}
 use Rattle.std.proofs.lemmas.Bool.{false≢true}
 use Rattle.std.specs.Prelude.{IfErr, OnOk}
 use Rattle.tdb_base.specs.Trace.{IsNumbered}
@@ -17,7 +17,7 @@ use Rattle.tdb_overlay.specs.Sound.{IsSound}
 use Rattle.tdb_overlay.specs.StoreState.{StoreState, first_state, formatted_state}
 use Rattle.tdb_overlay.proofs.RanLaws.{ran_reads, ran_then}
 use Rattle.tdb_chunk.specs.Formatting.{Formatted}
-use Rattle.tdb_chunk.specs.Settled.{RanSettled}
+use Rattle.tdb_recover.specs.Settled.{RanSettled}
 use Rattle.tdb_chunk.proofs.Growing.{leaves_weaker}
 
 -- Where the anchor counts nothing, it has the log without a text.
@@ -60,9 +60,6 @@ module _ {D : Type 0} (outside : D → Outside) (crash_states : D → CrashState
   pub settled_moments : (surely maybe : History) → RanSettled outside crash_states store old surely maybe new
       → LeavesOnly outside crash_states old new (λ i a. Unit {0})
   settled_moments surely maybe r = leaves_weaker outside crash_states old new _ _ (settled_ran surely maybe r).moments (λ i a left. tt)
-
-  pub reads_moments : OnlyReads outside crash_states old new → LeavesOnly outside crash_states old new (λ i a. Unit {0})
-  reads_moments reads = leaves_weaker outside crash_states old new _ _ reads.left (λ i a left. tt)
 
   -- a stop leaves the anchor that was told
   pub told_settled : (mid : D) → (outside mid).tells ≡ (outside old).tells

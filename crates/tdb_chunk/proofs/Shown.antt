@@ -10,23 +10,18 @@ use Rattle.tdb_base.specs.Trace.{ReadPiece, Trace, WrittenPiece, calls_in, with_
 use Rattle.tdb_base.specs.declared.suite.Suite.{Suite}
 use Rattle.tdb_mark.specs.declared.commit.Commit.{Commit}
 use Rattle.tdb_mark.specs.Unforged.{IsUnforged}
-use Rattle.tdb_model.specs.Lookup.{chunk_at}
 use Rattle.tdb_model.specs.State.{Partition}
 use Rattle.tdb_platform.specs.Outside.{Outside}
 use Rattle.tdb_seal.specs.SealedRecord.{IsSealedRecord}
 use Rattle.tdb_seal.proofs.RecordSpelling.{same_plain}
-use Rattle.tdb_overlay.specs.Covering.{Covered, IsCoveredAt, IsCoveredChunk, IsCoveredPartition, IsRecordOfChunk}
+use Rattle.tdb_overlay.specs.Covering.{Covered, IsCoveredAt, IsCoveredChunk, IsCoveredPartition}
 use Rattle.tdb_overlay.specs.Found.{Finds, in_trace}
 use Rattle.tdb_overlay.specs.Keys.{partition_key}
-use Rattle.tdb_overlay.specs.Lookup.{leader_of, seen_at, seen_in}
-use Rattle.tdb_overlay.specs.StoreState.{StoreState}
+use Rattle.tdb_overlay.specs.Lookup.{leader_of, seen_in}
 use Rattle.tdb_overlay.specs.declared.overlay.Leader.{Leader}
 use Rattle.tdb_overlay.specs.declared.overlay.Seen.TheVariants.{Base, Gone, Here}
 use Rattle.tdb_overlay.proofs.Unmistaken.{read_is_piece, was_read}
-use Rattle.tdb_overlay.specs.Needed.{needed}
-use Rattle.tdb_chunk.specs.Known.{Knows, store_of}
-use Rattle.tdb_chunk.specs.Reading.{IsDamageOf, name_of, IsDamagedChunk}
-use Rattle.tdb_chunk.specs.declared.open_log.OpenLog.{OpenLog}
+use Rattle.tdb_chunk.specs.Reading.{IsDamageOf, name_of}
 
 -- what a fetch tells of a damaged record
 pub damage_is : (piece : Piece) (old new : Outside) (damage : Damage) → damage.place ≡ piece.place → damage.expected ≡ piece.digest
@@ -97,24 +92,6 @@ module _ (finds : Finds) (secret : List ℕ) (rank : ℕ) where
       let same : leader_of c ≡ leader = let e : Some leader ≡ Some (leader_of c) = led in cc in
       subst (λ (l : Leader). KnownChunk finds secret l rank piece (finmap.get p.chunks rank)) same (in_partition c p piece (finmap.get c.edits rank) (finmap.get p.chunks rank) is (is.chunks rank) here)
 
-  -- its record, which the covers tell
-  its_record : (p : Partition) (piece : Piece) (edit : Option (Option Piece)) (chunk : Option (List ℕ)) → IsCoveredChunk finds secret p rank edit chunk → Here piece ≡ seen_in edit
-      → (bytes : List ℕ) × (chunk ≡ Some bytes) × IsRecordOfChunk finds secret p rank piece bytes
-  its_record p piece None chunk is here = let no : Here piece ≡ Base = here in absurd (cc)
-  its_record p piece (Some None) chunk is here = let no : Here piece ≡ Gone = here in absurd (cc)
-  its_record p piece (Some (Some q)) None is here = absurd is
-  its_record p piece (Some (Some q)) (Some bytes) is here =
-      let same : q ≡ piece = let e : Here piece ≡ Here q = here in cc in
-      (bytes, refl, subst (λ (x : Piece). IsRecordOfChunk finds secret p rank x bytes) same is)
-
-  record_in : (cover : Option Covered) (found : Option Partition) (piece : Piece) → IsCoveredAt finds secret cover found → Here piece ≡ seen_in (option_and_then (λ (c : Covered). finmap.get c.edits rank) cover)
-      → (p : Partition) × (found ≡ Some p) × (bytes : List ℕ) × (finmap.get p.chunks rank ≡ Some bytes) × IsRecordOfChunk finds secret p rank piece bytes
-  record_in None found piece is here = let no : Here piece ≡ Base = here in absurd (cc)
-  record_in (Some c) None piece is here = absurd is
-  record_in (Some c) (Some p) piece is here =
-      let r = its_record p piece (finmap.get c.edits rank) (finmap.get p.chunks rank) (is.chunks rank) here in
-      (p, refl, r.0, r.1, r.2)
-
   not_in : (p : Partition) (edit : Option (Option Piece)) (chunk : Option (List ℕ)) → IsCoveredChunk finds secret p rank edit chunk → ((piece : Piece) → seen_in edit ≡ Here piece → ⊥) → chunk ≡ None
   not_in p None chunk is isnt = is
   not_in p (Some None) chunk is isnt = is
@@ -126,31 +103,3 @@ module _ (finds : Finds) (secret : List ℕ) (rank : ℕ) where
   lacks None found leader is led isnt = let no : ◌≡◌ {A = Option Leader} (Some leader) None = led in absurd (cc)
   lacks (Some c) None leader is led isnt = absurd is
   lacks (Some c) (Some p) leader is led isnt = (λ none. absurd (let no : ◌≡◌ {A = Option Partition} (Some p) None = none in cc), not_in p (finmap.get c.edits rank) (finmap.get p.chunks rank) (is.chunks rank) isnt)
-
-module _ (o : Outside) (store : OpenLog) (last : StoreState) (known : Knows o store last) (part rank : ℕ) (leader : Leader) (led : Some leader ≡ option_map leader_of (finmap.get store.log.overlay part)) where
-  pub known_chunk : (piece : Piece) → Here piece ≡ seen_at store.log.overlay part rank → KnownChunk (needed o.trace.written (store_of store) o.anchor) store.keys leader rank piece (chunk_at last.chunks part rank)
-  known_chunk piece here = in_state (needed o.trace.written (store_of store) o.anchor) store.keys rank (finmap.get store.log.overlay part) (finmap.get last.chunks part) leader piece (known.chunks part) led here
-
-  pub known_lack : ((piece : Piece) → seen_at store.log.overlay part rank ≡ Here piece → ⊥) → (finmap.get last.chunks part ≢ None) × (chunk_at last.chunks part rank ≡ None)
-  known_lack isnt = lacks (needed o.trace.written (store_of store) o.anchor) store.keys rank (finmap.get store.log.overlay part) (finmap.get last.chunks part) leader (known.chunks part) led isnt
-
--- damage to the record of a chunk that the store knows
-pub damaged_chunk : (old new : Outside) (store : OpenLog) (last : StoreState) (known : Knows old store last) (part rank : ℕ) (piece : Piece) (damage : Damage) → Here piece ≡ seen_at store.log.overlay part rank
-    → IsTrue old.tells → IsDamageOf piece old new damage → IsDamagedChunk old new store last part rank damage
-damaged_chunk old new store last known part rank piece damage here tells is =
-    let r = record_in (needed old.trace.written (store_of store) old.anchor) store.keys rank (finmap.get store.log.overlay part) (finmap.get last.chunks part) piece (known.chunks part) here in
-    let holds = r.4 in
-    let shown = is.read tells in
-    record {
-      piece = piece;
-      place = is.place;
-      expected = is.expected;
-      required = holds.found.1;
-      partition = r.0;
-      is_there = r.1;
-      chunk = r.2;
-      has = r.3;
-      is_record = record { sealed = holds.sealed; found = holds.found.0; opened = holds.opened };
-      read = shown.0;
-      shown = shown.1;
-    }

@@ -30,7 +30,7 @@ use Rattle.tdb_overlay.proofs.SealedPuts.{only_sealed_none}
 use Rattle.tdb_chunk.specs.Formatting.{IsStart}
 use Rattle.tdb_chunk.specs.Known.{IsAtHead, Knows, store_of}
 use Rattle.tdb_chunk.specs.Preparing.{IsNext, IsPrepared}
-use Rattle.tdb_chunk.specs.Stepping.{HasKnownLog, IsCommitStep}
+use Rattle.tdb_chunk.specs.Stepping.{HasKnownLog}
 use Rattle.tdb_chunk.specs.declared.open_log.OpenLog.{OpenLog}
 use Rattle.tdb_chunk.proofs.Committing.{next_step}
 use Rattle.tdb_chunk.proofs.Starting.{first_steps}
@@ -93,16 +93,6 @@ module _ {D : Type 0} (outside : D → Outside) (crash_states : D → CrashState
       ok = tt;
       begun = (subst (λ (q : Result _ _). RanStep outside crash_states store added old new q) is step).begun;
     }
-
--- The step of a commit, where one log of a known state is given.
-pub step_from : {D T E : Type 0} (outside : D → Outside) (crash_states : D → CrashStates) (changes : List Change) (was : OpenLog)
-    (old new : D) (result : Result T E) → IsCommitStep outside crash_states changes was old new result
-    → (before : History) (from : StoreState) → IsLog (outside old).trace.written (store_of was) (outside old).anchor before from
-    → Knows (outside old) was from
-    → RanStep outside crash_states (store_of was) ((from.count + 1, changes) ∷ []) old new result
-step_from outside crash_states changes was old new result steps before from log known =
-    subst (λ (n : ℕ). RanStep outside crash_states (store_of was) ((n + 1, changes) ∷ []) old new result) known.count
-    (steps (λ sound. record { before = before; last = from; log = log; known = known }))
 
 -- The text of a commit that is laid comes next in the log that is known, and no other log has its anchor.
 module _ (o : Outside) (was : OpenLog) (keep : ℕ) (entries : List Entry) (before : List Placed) (behind : SegmentSpace) (changes : List Change)

@@ -45,7 +45,7 @@ use Rattle.tdb_overlay.proofs.RanLaws.{ran_reads}
 use Rattle.tdb_overlay.proofs.Telling.{infos_covered}
 use Rattle.tdb_chunk.specs.Reading.{HasShown, IsDamageOf, IsLate, name_of}
 use Rattle.tdb_chunk.specs.Shown.{Between, IsDamageOfChunk, IsMalformedChunk, IsVerifiedChunk, WasShown}
-use Rattle.tdb_chunk.specs.Standing.{IsInState, StandsAt, StoreGoes, StoreRan}
+use Rattle.tdb_chunk.specs.Standing.{IsInState, IsReady, StandsAt, StoreGoes, StoreRan}
 use Rattle.tdb_chunk.specs.StoreLaws.{ran_goes, store_itself, tells_before}
 use Rattle.tdb_chunk.specs.StoreMeans.{store_means}
 use Rattle.tdb_chunk.specs.StoreView.{StoreView, head_in, store_in, written_in}
@@ -197,8 +197,8 @@ module _ {P : Type 0} (outside : P → Outside) (crash_states : P → CrashState
         },
       )
 
-  module _ (part : PartId) (rank : Rank) (leader : Leader) (piece : Piece) (running : old.stopped ≡ false)
-      (led : Some leader ≡ option_map leader_of (finmap.get old.log.overlay part.0))
+  module _ (part : PartId) (rank : Rank) (leader : Leader) (piece : Piece) (ready : IsReady outside crash_states old)
+      (running : old.stopped ≡ false) (led : Some leader ≡ option_map leader_of (finmap.get old.log.overlay part.0))
       (here : Here piece ≡ seen_at old.log.overlay part.0 rank.0) (q : P) where
     abbrev Facts : Result (Vec ℕ) ReadError → Type 0
     Facts result = ReadFacts q rank.0 leader piece result
@@ -269,6 +269,7 @@ module _ {P : Type 0} (outside : P → Outside) (crash_states : P → CrashState
           read = shown.0;
           shown = shown.1;
           hidden = λ honest stands. f.stands honest stands damage refl;
+          at_head = ready.at_head running;
         })
     cause_of (Form place) f = λ told.
         let m = f.misshapen place refl in

@@ -1,3 +1,4 @@
+pub mod Attached
 pub mod CommitFacts
 pub mod Committing
 pub mod Formatting
@@ -9,10 +10,8 @@ pub mod Preparing
 pub mod Reading
 pub mod Shown
 pub mod Standing
-pub mod Settled
 pub mod Stepping
 pub mod StoreLaws
 pub mod StoreMeans
 pub mod StoreView
 pub mod Text
-pub mod Writing

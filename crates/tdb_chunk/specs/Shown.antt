@@ -17,7 +17,7 @@ use Rattle.tdb_overlay.specs.Reading.{HasRead}
 use Rattle.tdb_overlay.specs.Required.{IsDamaged, IsReadOf}
 use Rattle.tdb_overlay.specs.declared.overlay.Seen.TheVariants.{Here}
 use Rattle.tdb_chunk.specs.Standing.{StoreGoes}
-use Rattle.tdb_chunk.specs.StoreView.{StoreView}
+use Rattle.tdb_chunk.specs.StoreView.{StoreView, head_in}
 
 -- what holds of two values of a store that come, one after the other, between two others
 abbrev pub Between : {P : Type 0} → (P → Outside) → (P → CrashStates) → StoreView P → StoreView P → (StoreView P → StoreView P → Type 0) → Type 0
@@ -28,7 +28,8 @@ Between {P} outside crash_states old new Q =
 abbrev pub IsPieceOf : {P : Type 0} → StoreView P → ℕ → ℕ → Piece → Type 0
 IsPieceOf s part rank piece = seen_at s.log.overlay part rank ≡ Here piece
 
--- the last of the reads of a chunk's piece gave bytes of another digest, which an honest device doesn't where the piece stands
+-- The last of the reads of a chunk's piece gave bytes of another digest, which an honest device doesn't where the piece stands. The anchor
+-- then named the store's last text.
 pub record IsDamageOfChunk {P : Type 0} (outside : P → Outside) (part rank : ℕ) (damage : Damage) (old new : StoreView P) : Type 0 where
   pub piece : Piece
   pub of_chunk : IsPieceOf old part rank piece
@@ -37,6 +38,7 @@ pub record IsDamageOfChunk {P : Type 0} (outside : P → Outside) (part rank : �
   pub read : HasRead (outside old.platform) (outside new.platform)
   pub shown : IsDamaged read.more piece damage.found.0
   pub hidden : IsTrue (outside old.platform).honest → StandsIn (outside old.platform).image piece → ⊥
+  pub at_head : IsTrue (outside old.platform).tells → (outside old.platform).anchor ≡ head_in old
 
 -- one of the reads of the whole piece gave bytes of its digest, of which this holds
 pub record WasShown (reads : List ReadPiece) (piece : Piece) (Q : List ℕ → Type 0) : Type 0 where

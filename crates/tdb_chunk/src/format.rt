@@ -10,7 +10,7 @@ ghost use Rattle.tdb_overlay.specs.Intact.{StaysIntact};
 ghost use Rattle.tdb_overlay.specs.Ran.{RanStep};
 ghost use Rattle.tdb_overlay.specs.SealedOnly.{OnlySealed};
 ghost use Rattle.tdb_chunk.specs.declared.format.StoreError.TheVariants.{Fault, Memory};
-ghost use Rattle.tdb_chunk.specs.Formatting.{Formatted, IsStart, store_under};
+ghost use Rattle.tdb_chunk.specs.Formatting.{Formatted, IsStart, WritesFirstText, store_under};
 ghost use Rattle.tdb_chunk.specs.Text.{next_commit};
 ghost use Rattle.tdb_chunk.specs.Known.{IsAtHead, Knows, store_of};
 
@@ -147,6 +147,8 @@ impl OpenLog {
         ensures unread { IsTrue (P.outside platform.old).tells → (P.outside platform.new).trace.read ≡ (P.outside platform.old).trace.read }
         // only sealed records and texts go to the device
         ensures sealed { OnlySealed keys (P.outside platform.old) (P.outside platform.new) }
+        // no text but the first is written
+        ensures texts { WritesFirstText keys (P.outside platform.old) (P.outside platform.new) }
         // it is a step of a run, which adds no commit
         ensures steps { RanStep P.outside P.crash_states (store_under keys suite) [] platform.old platform.new result }
         ensures memory { result ≡ Err Memory → platform.new ≡ platform.old }

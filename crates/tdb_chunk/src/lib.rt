@@ -7,8 +7,6 @@
 
 mod attach;
 mod batch;
-mod changes;
-mod chunk;
 mod commit;
 mod format;
 mod laying;
@@ -22,7 +20,6 @@ mod store_chunks;
 mod store_format;
 mod text;
 
-pub use chunk::Chunk;
 pub use format::StoreError;
 pub use open_log::OpenLog;
 pub use store::{Room, Store};

@@ -1,9 +1,13 @@
 //! A log that was opened, and what is told of it.
+ghost use Rattle.std.specs.FinMap as map;
+ghost use Rattle.std.specs.Option.{option_map};
 ghost use Rattle.std.specs.Prelude.{◌≡◌};
+ghost use Rattle.tdb_overlay.specs.Lookup.{leader_of};
 ghost use Rattle.tdb_overlay.specs.Recovered.{HasCounts};
 
 use crate::open_log::OpenLog;
-use tdb_overlay::{Keys, Recovered};
+use tdb_base::PartId;
+use tdb_overlay::{Keys, Leader, Recovered};
 
 impl OpenLog {
     /// The log that was recovered with these keys.
@@ -22,10 +26,10 @@ impl OpenLog {
         self.log.head.count
     }
 
-    /// The number of segments of the device, 16 to 4,096.
-    pub fn segments(&self) -> u32
-        ensures { result ≡ self.now.log.segments.segments }
+    /// What is told of a partition, or `None` where it isn't there. It takes no memory.
+    pub fn leader(&self, part: PartId) -> Option<Leader>
+        ensures { result ≡ option_map leader_of (map.get self.now.log.overlay part.0) }
     {
-        self.log.segments.segments()
+        self.log.overlay.leader(part)
     }
 }

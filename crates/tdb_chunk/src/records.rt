@@ -1,24 +1,21 @@
-//! The records that a store seals: tables, lists of changes and chunks.
-ghost use Rattle.std.specs.Prelude.{◌≡◌, ◌+◌, ◌*◌, ◌≤◌, ◌<◌, IfOk, length};
+//! The records of the system that a store seals: tables and lists of changes.
+ghost use Rattle.std.specs.Prelude.{◌≡◌, ◌+◌, ◌*◌, IfOk, length};
 ghost use Rattle.std.specs.List.{AllByRecursion};
 ghost use Rattle.tdb_list.specs.ChangeList.{IsList, list_bytes};
 ghost use Rattle.tdb_list.specs.Entry.{IsEntryValue};
 ghost use Rattle.tdb_node.specs.SegmentTable.{IsTable, IsTableValue, table_bytes};
 ghost use Rattle.tdb_seal.specs.SealedRecord.{IsSealedRecord};
-ghost use Rattle.tdb_overlay.specs.Keys.{partition_key, system_key};
+ghost use Rattle.tdb_overlay.specs.Keys.{system_key};
 ghost use Rattle.tdb_overlay.specs.SealedOnly.{IsRecord};
 ghost use Rattle.tdb_overlay.specs.StoreState.{record_length};
-ghost use Rattle.tdb_chunk.specs.Names.{chunk_name, list_name, table_name};
+ghost use Rattle.tdb_chunk.specs.Names.{list_name, table_name};
 
-use crate::chunk::Chunk;
 use std::alloc::{AllocError, Global};
-use tdb_base::{PartId, Suite};
+use tdb_base::Suite;
 use tdb_list::{Entry, write_list};
 use tdb_node::{Table, write_table};
-use tdb_overlay::{Keys, Leader};
+use tdb_overlay::Keys;
 use tdb_seal::{Name, seal_record};
-
-const CHUNK: u32 = 1;
 
 const TABLE: u32 = 4;
 
@@ -69,29 +66,4 @@ pub(crate) fn seal_list(
         rank: 0,
     };
     seal_record(alloc, keys.system(), &name, &list)
-}
-
-/// Seals a chunk of a partition in suite plain.
-pub(crate) fn seal_chunk(
-    alloc: Global,
-    keys: &Keys,
-    leader: &Leader,
-    chunk: &Chunk,
-) -> Result<Vec<u8>, AllocError>
-    requires home { (1 ≤ leader.now.home) × (leader.now.home ≤ 4095) }
-    requires birth { 1 ≤ leader.now.birth }
-    requires rank { chunk.now.rank.0 < 262144 }
-    requires short { length chunk.now.bytes ≤ 65536 }
-    ensures sealed { IfOk result (λ bytes. IsSealedRecord (partition_key keys.now leader.now.home leader.now.birth) (chunk_name leader.now.home chunk.now.rank.0) chunk.now.bytes bytes.items) }
-    ensures is_record { IfOk result (λ bytes. IsRecord keys.now bytes.items) }
-    ensures size { IfOk result (λ bytes. length bytes.items ≡ 48 + length chunk.now.bytes) }
-{
-    let key = keys.partition(PartId(leader.home), leader.birth);
-    let name = Name {
-        kind: CHUNK,
-        suite: Suite::Plain,
-        home: leader.home,
-        rank: chunk.rank.0,
-    };
-    seal_record(alloc, &key, &name, chunk.bytes.as_slice())
 }

@@ -8,8 +8,8 @@ ghost use Rattle.tdb_overlay.specs.SealedOnly.{OnlySealed};
 ghost use Rattle.tdb_overlay.specs.Sound.{IsSound};
 ghost use Rattle.tdb_overlay.specs.StoreState.{formatted_state};
 ghost use Rattle.tdb_platform.specs.CrashStates.{LeavesOnly};
-ghost use Rattle.tdb_chunk.specs.Formatting.{store_under};
-ghost use Rattle.tdb_chunk.specs.Settled.{RanSettled};
+ghost use Rattle.tdb_chunk.specs.Formatting.{WritesFirstText, store_under};
+ghost use Rattle.tdb_recover.specs.Settled.{RanSettled};
 ghost use Rattle.tdb_chunk.specs.declared.store_format.FormatError.TheVariants as errors;
 
 use crate::format::StoreError;
@@ -53,6 +53,9 @@ fn lay_log<P: Platform>(
         → (count ≢ 0) × (IsTrue (P.outside platform.old).tells → (P.outside platform.old).anchor.0 ≡ count) }
     ensures already_always { IsTrue (P.outside platform.old).tells → (P.outside platform.old).anchor.0 ≢ 0
         → (result ≡ Err (errors.AlreadyFormatted (P.outside platform.old).anchor.0)) ⊎ (result ≡ Err errors.Fault) }
+    // a store that is there is only read
+    ensures over_a_store { IsTrue (P.outside platform.old).tells → (P.outside platform.old).anchor.0 ≢ 0
+        → OnlyReads P.outside P.crash_states platform.old platform.new }
     ensures only_read { IfErr result (λ e. e ≢ errors.Fault
         → OnlyReads P.outside P.crash_states platform.old platform.new × IsSettled P.outside P.crash_states platform.new) }
     ensures ran { OnOk result (RanSettled P.outside P.crash_states (store_under secret.now suite) platform.old [] [] platform.new) }
@@ -65,6 +68,7 @@ fn lay_log<P: Platform>(
     ensures settled { OnOk result (IsSettled P.outside P.crash_states platform.new) }
     ensures unread { IsTrue (P.outside platform.old).tells → (P.outside platform.new).trace.read ≡ (P.outside platform.old).trace.read }
     ensures sealed { OnlySealed secret.now (P.outside platform.old) (P.outside platform.new) }
+    ensures texts { WritesFirstText secret.now (P.outside platform.old) (P.outside platform.new) }
     ensures quiet { result ≢ Err errors.Fault → (P.outside platform.new).faults ≡ (P.outside platform.old).faults }
     ensures fault { result ≡ Err errors.Fault → Rose (P.outside platform.old).faults (P.outside platform.new).faults }
     ensures tells { (P.outside platform.new).tells ≡ (P.outside platform.old).tells }
@@ -107,6 +111,9 @@ impl<P: Platform> Store<P> {
         ensures already_always { 16 ≤ segments → segments ≤ 4096 → IsTrue (P.outside platform).tells → (P.outside platform).anchor.0 ≢ 0
             → IfErr result (λ e. (e.1 ≡ errors.AlreadyFormatted (P.outside platform).anchor.0) ⊎ (e.1 ≡ errors.Fault)) }
         ensures was_unformatted { IfOk result (λ p. IsTrue (P.outside platform).tells → (P.outside platform).anchor.0 ≡ 0) }
+        // a store that is there is only read
+        ensures over_a_store { IfErr result (λ e. IsTrue (P.outside platform).tells → (P.outside platform).anchor.0 ≢ 0
+            → e.1 ≢ errors.Segments → OnlyReads P.outside P.crash_states platform e.0) }
         // only after a fault there may be more than the anchor asked
         ensures only_read { IfErr result (λ e. e.1 ≢ errors.Fault → e.1 ≢ errors.Segments
             → OnlyReads P.outside P.crash_states platform e.0 × IsSettled P.outside P.crash_states e.0) }
@@ -123,6 +130,8 @@ impl<P: Platform> Store<P> {
         ensures unread { IfOk result (λ p. IsTrue (P.outside platform).tells → (P.outside p).trace.read ≡ (P.outside platform).trace.read) }
         ensures unread_err { IfErr result (λ e. IsTrue (P.outside platform).tells → (P.outside e.0).trace.read ≡ (P.outside platform).trace.read) }
         ensures sealed { IfOk result (λ p. OnlySealed secret.now (P.outside platform) (P.outside p)) }
+        ensures texts { IfOk result (λ p. WritesFirstText secret.now (P.outside platform) (P.outside p)) }
+        ensures texts_err { IfErr result (λ e. WritesFirstText secret.now (P.outside platform) (P.outside e.0)) }
         ensures sealed_err { IfErr result (λ e. OnlySealed secret.now (P.outside platform) (P.outside e.0)) }
         // no fault is hidden, and none is made up
         ensures quiet { IfOk result (λ p. (P.outside p).faults ≡ (P.outside platform).faults) }

@@ -1,11 +1,12 @@
 //! The first path of a store, against the marks that an independent model of the formats gives. A mark depends on every
 //! byte that was written.
+use crate::store::opened;
 use std::alloc::Global;
 use std::test::Fail;
 use tdb_base::{Bytes, PartId, Rank, Suite};
-use tdb_chunk::{Chunk, OpenLog};
+use tdb_chunk::OpenLog;
 use tdb_first_path::{FIRST_MARK, SECOND_MARK, STORED_NOTE, THIRD_MARK};
-use tdb_model::{Change, CommitError, ReadError};
+use tdb_model::{Change, Chunks, CommitError, ReadError};
 use tdb_overlay::Keys;
 use tdb_platform::{MemoryPlatform, Platform};
 
@@ -27,6 +28,16 @@ fn device(alloc: Global, fail: &[u64]) -> Result<MemoryPlatform, Fail> {
     Ok(MemoryPlatform::new(alloc, image, 0, [0; 32], fail, None)?)
 }
 
+/// Reads a chunk.
+fn read<C: Chunks>(
+    chunks: &mut C,
+    alloc: Global,
+    part: PartId,
+    rank: Rank,
+) -> Result<Vec<u8>, ReadError> {
+    chunks.read(alloc, part, rank)
+}
+
 #[test]
 fn the_first_path_has_the_marks_of_the_model(rt: HostRuntime) -> Result<(), Fail> {
     let alloc = rt.alloc();
@@ -35,34 +46,6 @@ fn the_first_path_has_the_marks_of_the_model(rt: HostRuntime) -> Result<(), Fail
     assert_eq!(rt; count, 0);
     let mut store = OpenLog::format(alloc, &mut platform, Keys::new(&[0; 32]), Suite::Plain, 16)?;
     assert_eq!(rt; platform.anchor()?.1.as_slice(), MARKS[0]);
-    assert!(rt; store.may_make());
-    if store.may_make() {
-        store.make_partitions(alloc, &mut platform)?;
-    }
-    assert_eq!(rt; platform.anchor()?.1.as_slice(), MARKS[1]);
-    assert!(rt; store.may_write(FIRST));
-    let note = Chunk {
-        rank: Rank(1),
-        bytes: Bytes::from(NOTE.to_vec(alloc)?),
-    };
-    if store.may_write(FIRST) {
-        store.commit_writes(alloc, &mut platform, FIRST, &[note])?;
-    }
-    assert_eq!(rt; platform.anchor()?.1.as_slice(), MARKS[2]);
-    assert_eq!(rt; store.count(), 3);
-    assert_eq!(rt; store.segments(), 16);
-    let read = store.read(alloc, &mut platform, FIRST, Rank(1))?;
-    assert_eq!(rt; read.as_slice(), NOTE);
-    Ok(())
-}
-
-#[test]
-fn any_changes_have_the_marks_of_the_model(rt: HostRuntime) -> Result<(), Fail> {
-    let alloc = rt.alloc();
-    let mut platform = device(alloc, &[])?;
-    let (count, _) = platform.anchor()?;
-    assert_eq!(rt; count, 0);
-    let mut store = OpenLog::format(alloc, &mut platform, Keys::new(&[0; 32]), Suite::Plain, 16)?;
     let makes = [make(FIRST, Suite::Plain), make(PartId(2), Suite::Plain)];
     store.commit(alloc, &mut platform, &makes)?;
     assert_eq!(rt; platform.anchor()?.1.as_slice(), MARKS[1]);
@@ -73,6 +56,10 @@ fn any_changes_have_the_marks_of_the_model(rt: HostRuntime) -> Result<(), Fail> 
     };
     store.commit(alloc, &mut platform, &[write])?;
     assert_eq!(rt; platform.anchor()?.1.as_slice(), MARKS[2]);
+    assert_eq!(rt; store.count(), 3);
+    let mut store = opened(alloc, platform)?;
+    let note = read(&mut store, alloc, FIRST, Rank(1))?;
+    assert_eq!(rt; note.as_slice(), NOTE);
     Ok(())
 }
 
@@ -96,9 +83,10 @@ fn a_copy_has_what_the_commit_wrote_before_it(rt: HostRuntime) -> Result<(), Fai
         Change::Free { part, rank },
     ];
     store.commit(alloc, &mut platform, &changes)?;
-    let read = store.read(alloc, &mut platform, copy, rank)?;
-    assert_eq!(rt; read.as_slice(), NOTE);
-    let freed = store.read(alloc, &mut platform, part, rank);
+    let mut store = opened(alloc, platform)?;
+    let copied = read(&mut store, alloc, copy, rank)?;
+    assert_eq!(rt; copied.as_slice(), NOTE);
+    let freed = read(&mut store, alloc, part, rank);
     assert!(rt; matches!(&freed, Err(ReadError::NoChunk)));
     Ok(())
 }
@@ -117,17 +105,22 @@ fn a_largest_chunk_is_written_and_read(rt: HostRuntime) -> Result<(), Fail> {
         Suite::Plain,
         4_096,
     )?;
-    assert!(rt; store.may_make());
-    store.make_partitions(alloc, &mut platform)?;
-    let largest = Chunk {
-        rank: Rank(262_143),
-        bytes: Bytes::from(vec![in alloc; 7u8; 65_536]?),
-    };
-    store.commit_writes(alloc, &mut platform, FIRST, &[largest])?;
-    assert_eq!(rt; store.count(), 3);
-    let read = store.read(alloc, &mut platform, FIRST, Rank(262_143))?;
-    assert_eq!(rt; read.len(), 65_536);
-    for byte in &read {
+    let rank = Rank(262_143);
+    let bytes = Bytes::from(vec![in alloc; 7u8; 65_536]?);
+    let changes = [
+        make(FIRST, Suite::Plain),
+        Change::Write {
+            part: FIRST,
+            rank,
+            bytes,
+        },
+    ];
+    store.commit(alloc, &mut platform, &changes)?;
+    assert_eq!(rt; store.count(), 2);
+    let mut store = opened(alloc, platform)?;
+    let largest = read(&mut store, alloc, FIRST, rank)?;
+    assert_eq!(rt; largest.len(), 65_536);
+    for byte in &largest {
         assert_eq!(rt; *byte, 7);
     }
     Ok(())

@@ -10,24 +10,24 @@ use tdb_platform::MemoryPlatform;
 use tdb_recover::{OpenError, recover};
 use tdb_seal::{Name, seal_record};
 
-const SECRET: [u8; 32] = [0; 32];
+pub(crate) const SECRET: [u8; 32] = [0; 32];
 
 // The pieces of the first path, and the mark of its third text.
-const FIRST_TEXT: &[u8] = &tdb_first_path::FIRST_TEXT;
+pub(crate) const FIRST_TEXT: &[u8] = &tdb_first_path::FIRST_TEXT;
 
-const SECOND_TEXT: &[u8] = &tdb_first_path::SECOND_TEXT;
+pub(crate) const SECOND_TEXT: &[u8] = &tdb_first_path::SECOND_TEXT;
 
-const THIRD_TEXT: &[u8] = &tdb_first_path::THIRD_TEXT;
+pub(crate) const THIRD_TEXT: &[u8] = &tdb_first_path::THIRD_TEXT;
 
 const TABLE: &[u8] = &tdb_first_path::TABLE;
 
 const OPENING_LIST: &[u8] = &tdb_first_path::OPENING_LIST;
 
-const NOTE: &[u8] = &tdb_first_path::NOTE;
+pub(crate) const NOTE: &[u8] = &tdb_first_path::NOTE;
 
 const NOTE_LIST: &[u8] = &tdb_first_path::NOTE_LIST;
 
-const MARK: [u8; 32] = tdb_first_path::THIRD_MARK;
+pub(crate) const MARK: [u8; 32] = tdb_first_path::THIRD_MARK;
 
 /// A device of these pieces, in the order of their places.
 fn device_of(alloc: Global, pieces: &[(usize, &[u8])]) -> Result<Vec<u8>, AllocError> {
@@ -40,7 +40,7 @@ fn device_of(alloc: Global, pieces: &[(usize, &[u8])]) -> Result<Vec<u8>, AllocE
 }
 
 /// The device of the first path, with other texts.
-fn first_path_with(alloc: Global, texts: [&[u8]; 3]) -> Result<Vec<u8>, AllocError> {
+pub(crate) fn first_path_with(alloc: Global, texts: [&[u8]; 3]) -> Result<Vec<u8>, AllocError> {
     let [first, second, third] = texts;
     device_of(
         alloc,
@@ -56,7 +56,7 @@ fn first_path_with(alloc: Global, texts: [&[u8]; 3]) -> Result<Vec<u8>, AllocErr
     )
 }
 
-fn first_path(alloc: Global) -> Result<Vec<u8>, AllocError> {
+pub(crate) fn first_path(alloc: Global) -> Result<Vec<u8>, AllocError> {
     first_path_with(alloc, [FIRST_TEXT, SECOND_TEXT, THIRD_TEXT])
 }
 
@@ -80,12 +80,12 @@ fn open(
 }
 
 /// The commit that a text says.
-fn said(text: &[u8]) -> Result<Commit, Failed> {
+pub(crate) fn said(text: &[u8]) -> Result<Commit, Failed> {
     read_commit(text, &commit_key(&SECRET)).ok_or(Failed)
 }
 
 /// The text of a commit.
-fn spelled(commit: &Commit) -> Result<[u8; 256], Failed> {
+pub(crate) fn spelled(commit: &Commit) -> Result<[u8; 256], Failed> {
     if commit.is_in_format() {
         Ok(write_commit(commit, &commit_key(&SECRET)))
     } else {
@@ -127,25 +127,28 @@ fn the_log_of_the_first_path_is_opened(rt: HostRuntime) -> Result<(), Fail> {
 #[test]
 fn each_piece_is_read_once_and_each_fault_is_told(rt: HostRuntime) -> Result<(), Fail> {
     let alloc = rt.alloc();
-    // the anchor, three texts, the table and two lists
-    for call in 1..8u64 {
+    // the anchor, a sync, three texts, the table, two lists and the next slot
+    for call in 1..10u64 {
         let opened = open(alloc, first_path(alloc)?, 3, MARK, &[call]);
         assert!(rt; matches!(opened, Err(OpenError::Fault)), "call {call}");
     }
-    assert!(rt; open(alloc, first_path(alloc)?, 3, MARK, &[8]).is_ok());
+    assert!(rt; open(alloc, first_path(alloc)?, 3, MARK, &[10]).is_ok());
     Ok(())
 }
 
 #[test]
 fn an_earlier_anchor_has_an_earlier_log(rt: HostRuntime) -> Result<(), Fail> {
     let alloc = rt.alloc();
+    let empty = [0; 256];
     let second = said(THIRD_TEXT)?.prev;
-    let log = open(alloc, first_path(alloc)?, 2, second.0, &[])?;
+    let image = first_path_with(alloc, [FIRST_TEXT, SECOND_TEXT, &empty])?;
+    let log = open(alloc, image, 2, second.0, &[])?;
     assert_eq!(rt; (log.head.count, log.head.base), (2, 1));
     assert_eq!(rt; log.segments.tail(), Some(Place(262_928)));
     assert_eq!(rt; log.overlay.get(PartId(1), Rank(1)), Seen::Base);
     let first = said(SECOND_TEXT)?.prev;
-    let log = open(alloc, first_path(alloc)?, 1, first.0, &[])?;
+    let image = first_path_with(alloc, [FIRST_TEXT, &empty, THIRD_TEXT])?;
+    let log = open(alloc, image, 1, first.0, &[])?;
     assert_eq!(rt; log.segments.tail(), Some(Place(262_720)));
     assert_eq!(rt; log.overlay.leader(PartId(1)), None);
     Ok(())

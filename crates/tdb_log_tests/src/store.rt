@@ -52,7 +52,10 @@ fn listed<C: Chunks>(chunks: &C, alloc: Global) -> Result<Vec<PartInfo>, AllocEr
 }
 
 /// Opens the store of a secret of zeros.
-fn opened(alloc: Global, platform: MemoryPlatform) -> Result<Store<MemoryPlatform>, OpenError> {
+pub(crate) fn opened(
+    alloc: Global,
+    platform: MemoryPlatform,
+) -> Result<Store<MemoryPlatform>, OpenError> {
     match Store::attach(alloc, platform, &[0; 32]) {
         Ok(store) => Ok(store),
         Err((_platform, error)) => Err(error),

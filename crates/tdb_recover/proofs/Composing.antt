@@ -1,14 +1,15 @@
 -- Calls that only read, one after another, and what their errors say.
-use Rattle.std.proofs.Common.{inl, inr, ℕ, ◌≤◌, List, ◌∷◌, ◌++◌, IsTrue, sym, ◌∙◌, ap, subst, arith, append_assoc}
+use Rattle.std.proofs.Common.{◌≡◌, inl, inr, ℕ, ◌≤◌, List, ◌∷◌, ◌++◌, IsTrue, sym, ◌∙◌, ap, subst, arith, append_assoc}
 use Rattle.tdb_base.specs.declared.piece.Piece.{Piece}
 use Rattle.tdb_base.specs.Trace.{Trace, ReadPiece, WrittenPiece, Extends, IsNumbered}
 use Rattle.tdb_mark.specs.CommitText.{commit_key_of, commit_of}
 use Rattle.tdb_mark.proofs.UnforgedLemmas.{IsUnforged-before}
 use Rattle.tdb_platform.specs.Outside.{Outside}
 use Rattle.tdb_platform.specs.CrashStates.{CrashStates}
+use Rattle.tdb_overlay.specs.Images.{StandsIn}
 use Rattle.tdb_overlay.specs.Reading.{HasRead, OnlyReads}
 use Rattle.tdb_recover.specs.Chain.{IsGiven, WholeLog}
-use Rattle.tdb_recover.specs.Damaged.{IsDamageOf}
+use Rattle.tdb_recover.specs.Damaged.{IsDamageOf, damaged_piece}
 use Rattle.tdb_recover.specs.Explained.{IsCaused, IsExplained}
 use Rattle.tdb_recover.specs.declared.error.OpenError.{OpenError}
 use Rattle.tdb_recover.specs.declared.error.OpenError.TheVariants.{Unformatted, Tampered, Form, Fault, Memory}
@@ -22,9 +23,14 @@ given_before written mid new secret log numbered grows given = record {
   tells = given.tells;
 }
 
+-- an honest device is so later, with the same image
+abbrev StaysHonest : Outside → Outside → Type 0
+StaysHonest old mid = IsTrue old.honest → IsTrue mid.honest × (mid.image ≡ old.image)
+
 -- damage that a later call was shown
-damage_later : (old mid new : Outside) (needed : Piece → Type 0) (damage : _) → HasRead old mid → IsDamageOf mid new needed damage → IsDamageOf old new needed damage
-damage_later old mid new needed damage first is = record {
+damage_later : (old mid new : Outside) (needed : Piece → Type 0) (damage : _) → HasRead old mid → StaysHonest old mid
+    → IsDamageOf mid new needed damage → IsDamageOf old new needed damage
+damage_later old mid new needed damage first stays is = record {
   size = is.size;
   is_needed = is.is_needed;
   read = record { more = first.more ++ is.read.more; read = is.read.read ∙ ap (λ (l : List ReadPiece). l ++ is.read.more) first.read ∙ append_assoc old.trace.read first.more is.read.more };
@@ -38,14 +44,18 @@ damage_later old mid new needed damage first is = record {
     digest = is.shown.digest;
     differs = is.shown.differs;
   };
+  hidden = λ honest stands.
+      let then = stays honest in
+      is.hidden then.0 (subst (λ (image : List ℕ). StandsIn image (damaged_piece damage is.size)) (sym then.1) stands);
 }
 
-explained_later : (old mid new : Outside) (needed : Piece → Type 0) (error : OpenError) → HasRead old mid → IsExplained mid new needed error → IsExplained old new needed error
-explained_later old mid new needed Unformatted first is = is
-explained_later old mid new needed (Tampered damage) first is = damage_later old mid new needed damage first is
-explained_later old mid new needed (Form place) first is = is
-explained_later old mid new needed Fault first is = tt
-explained_later old mid new needed Memory first is = tt
+explained_later : (old mid new : Outside) (needed : Piece → Type 0) (error : OpenError) → HasRead old mid → StaysHonest old mid
+    → IsExplained mid new needed error → IsExplained old new needed error
+explained_later old mid new needed Unformatted first stays is = is
+explained_later old mid new needed (Tampered damage) first stays is = damage_later old mid new needed damage first stays is
+explained_later old mid new needed (Form place) first stays is = is
+explained_later old mid new needed Fault first stays is = tt
+explained_later old mid new needed Memory first stays is = tt
 
 pub caused_later : (old mid new : Outside) (error : OpenError) → old.faults ≤ mid.faults → IsCaused mid new error → IsCaused old new error
 caused_later old mid new Unformatted first is = is
@@ -61,7 +71,9 @@ module _ {D : Type 0} (outside : D → Outside) (crash_states : D → CrashState
 
   -- an error of a later call
   pub explained_then : (new : D) (needed : Piece → Type 0) (error : OpenError) → IsExplained (outside mid) (outside new) needed error → IsExplained (outside old) (outside new) needed error
-  explained_then new needed error is = explained_later (outside old) (outside mid) (outside new) needed error (record { more = (first.grows t).more_read; read = (first.grows t).read }) is
+  explained_then new needed error is = explained_later (outside old) (outside mid) (outside new) needed error
+      (record { more = (first.grows t).more_read; read = (first.grows t).read })
+      (λ honest. (subst IsTrue (sym first.honest) honest, first.image honest)) is
 
   -- a later call has the same pieces
   pub given_then : (trace : Trace) (secret : List ℕ) (log : WholeLog) → IsGiven (outside old).trace.written trace secret log → IsGiven (outside mid).trace.written trace secret log

@@ -1,5 +1,6 @@
 -- What a read of a whole piece gave, and what it showed.
-use Rattle.std.proofs.Common.{◌≡◌, ◌≢◌, ◌⊎◌, inl, inr, ⊎_elim, ℕ, ◌<◌, ◌+◌, List, [], ◌∷◌, ◌++◌, length, Option, Some, None, refl, sym, ◌∙◌, ap, subst, arith}
+use Rattle.std.proofs.Common.{◌≡◌, ◌≢◌, ◌⊎◌, inl, inr, ⊎_elim, ℕ, ◌<◌, ◌+◌, List, [], ◌∷◌, ◌++◌, length, Option, Some, None, IsTrue}
+use Rattle.std.proofs.Common.{refl, sym, ◌∙◌, ap, subst, arith}
 use Rattle.sha2.specs.Sha256.{sha256}
 use Rattle.tdb_base.specs.declared.piece.Damage.{Damage}
 use Rattle.tdb_base.specs.declared.piece.Digest.{Digest}
@@ -15,6 +16,7 @@ use Rattle.tdb_mark.proofs.TextLemmas.{commit_of-other_length}
 use Rattle.tdb_platform.specs.Outside.{Outside}
 use Rattle.tdb_overlay.specs.declared.fetching.FetchError.{FetchError}
 use Rattle.tdb_overlay.specs.declared.fetching.FetchError as fetching
+use Rattle.tdb_overlay.specs.Images.{StandsIn}
 use Rattle.tdb_recover.specs.declared.error.OpenError.{OpenError}
 use Rattle.tdb_recover.specs.declared.error.OpenError.TheVariants.{Unformatted, Tampered, Form, Fault, Memory}
 use Rattle.tdb_recover.specs.Chain.{IsTextOf}
@@ -43,8 +45,9 @@ text_read t new at asked secret mark bytes c is same of =
 
 -- a read of other bytes is damage
 pub damage_shown : (old new : Outside) (needed : Piece → Type 0) (damage : Damage) (piece : Piece) (bytes : List ℕ) → damage.place ≡ piece.place → damage.expected ≡ piece.digest → needed piece
-    → new.trace ≡ with_read old.trace piece.place.0 piece.length bytes → sha256 bytes ≡ damage.found.0 → (damage.found ≢ piece.digest) → IsDamageOf old new needed damage
-damage_shown old new needed damage piece bytes at expected is_needed is found differs =
+    → new.trace ≡ with_read old.trace piece.place.0 piece.length bytes → sha256 bytes ≡ damage.found.0 → (damage.found ≢ piece.digest)
+    → (IsTrue old.honest → StandsIn old.image piece → ⊥) → IsDamageOf old new needed damage
+damage_shown old new needed damage piece bytes at expected is_needed is found differs hidden =
     let same : piece ≡ damaged_piece damage piece.length =
     ap (λ (p : Place). let q : Piece = record { place = p; length = piece.length; digest = piece.digest } in q) (sym at)
     ∙ ap (λ (d : Digest). let q : Piece = record { place = damage.place; length = piece.length; digest = d } in q) (sym expected) in
@@ -62,6 +65,7 @@ damage_shown old new needed damage piece bytes at expected is_needed is found di
         digest = found;
         differs = λ (e : damage.found.0 ≡ damage.expected.0). differs (ap (λ (l : List ℕ). let d : Digest = record { 0 = l } in d) e ∙ expected);
       };
+      hidden = λ honest stands. hidden honest (subst (λ (p : Piece). StandsIn old.image p) (sym same) stands);
     }
 
 pub some_none : {A : Type 0} (x : A) → None ≡ Some x → ⊥
@@ -76,31 +80,41 @@ short_differs t new at asked secret mark bytes c is of short same =
 pub text_error : (old new : Outside) (secret : List ℕ) (piece : Piece) (c : Commit) (error : FetchError)
     → ((damage : Damage) → error ≡ fetching.TheVariants.Tampered damage → (damage.place ≡ piece.place) × (damage.expected ≡ piece.digest)
     × ((bytes : List ℕ) × (new.trace ≡ with_read old.trace piece.place.0 piece.length bytes) × (sha256 bytes ≡ damage.found.0) × ((damage.found ≢ piece.digest) ⊎ (length bytes < 256))))
+    → (IsTrue old.honest → StandsIn old.image piece → (damage : Damage) → error ≢ fetching.TheVariants.Tampered damage)
     → IsTextOf old.trace.written new.trace secret piece.digest.0 c → IsExplained old new (λ p. p ≡ piece) (open_error_of error)
-text_error old new secret piece c (fetching.TheVariants.Tampered damage) tampered of =
+text_error old new secret piece c (fetching.TheVariants.Tampered damage) tampered stands of =
     let h = tampered damage refl in
     let shown = h.2 in
     damage_shown old new (λ p. p ≡ piece) damage piece shown.0 h.0 h.1 refl shown.1 shown.2
     (⊎_elim (λ differs. differs) (λ short same. short_differs old.trace new.trace piece.place.0 piece.length secret piece.digest.0 shown.0 c shown.1 of short (shown.2 ∙ ap (λ (d : Digest). d.0) same)) shown.3)
-text_error old new secret piece c fetching.TheVariants.Fault tampered of = tt
-text_error old new secret piece c fetching.TheVariants.Memory tampered of = tt
+    (λ honest held. stands honest held damage refl)
+text_error old new secret piece c fetching.TheVariants.Fault tampered stands of = tt
+text_error old new secret piece c fetching.TheVariants.Memory tampered stands of = tt
 
 -- an error of reading a piece
 pub piece_error : (old new : Outside) (piece : Piece) (error : FetchError)
     → ((damage : Damage) → error ≡ fetching.TheVariants.Tampered damage → (damage.place ≡ piece.place) × (damage.expected ≡ piece.digest)
     × ((bytes : List ℕ) × (new.trace ≡ with_read old.trace piece.place.0 piece.length bytes) × (sha256 bytes ≡ damage.found.0) × (damage.found ≢ piece.digest)))
+    → (IsTrue old.honest → StandsIn old.image piece → (damage : Damage) → error ≢ fetching.TheVariants.Tampered damage)
     → IsExplained old new (λ p. p ≡ piece) (open_error_of error)
-piece_error old new piece (fetching.TheVariants.Tampered damage) tampered =
+piece_error old new piece (fetching.TheVariants.Tampered damage) tampered stands =
     let h = tampered damage refl in
     let shown = h.2 in
     damage_shown old new (λ p. p ≡ piece) damage piece shown.0 h.0 h.1 refl shown.1 shown.2 shown.3
-piece_error old new piece fetching.TheVariants.Fault tampered = tt
-piece_error old new piece fetching.TheVariants.Memory tampered = tt
+    (λ honest held. stands honest held damage refl)
+piece_error old new piece fetching.TheVariants.Fault tampered stands = tt
+piece_error old new piece fetching.TheVariants.Memory tampered stands = tt
 
 -- an error is explained where what is needed by one account is so by another
 pub explained_as : (old new : Outside) (needed other : Piece → Type 0) (error : OpenError) → ((piece : Piece) → needed piece → other piece) → IsExplained old new needed error → IsExplained old new other error
 explained_as old new needed other Unformatted weaker is = is
-explained_as old new needed other (Tampered damage) weaker is = record { size = is.size; is_needed = weaker (damaged_piece damage is.size) is.is_needed; read = is.read; shown = is.shown }
+explained_as old new needed other (Tampered damage) weaker is = record {
+  size = is.size;
+  is_needed = weaker (damaged_piece damage is.size) is.is_needed;
+  read = is.read;
+  shown = is.shown;
+  hidden = is.hidden;
+}
 explained_as old new needed other (Form place) weaker is = is
 explained_as old new needed other Fault weaker is = tt
 explained_as old new needed other Memory weaker is = tt

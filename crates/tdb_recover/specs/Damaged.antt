@@ -1,8 +1,9 @@
 -- Damage that was told, and what was read.
-use Rattle.std.specs.Prelude.{ℕ}
+use Rattle.std.specs.Prelude.{ℕ, IsTrue}
 use Rattle.tdb_base.specs.declared.piece.Damage.{Damage}
 use Rattle.tdb_base.specs.declared.piece.Piece.{Piece}
 use Rattle.tdb_platform.specs.Outside.{Outside}
+use Rattle.tdb_overlay.specs.Images.{StandsIn}
 use Rattle.tdb_overlay.specs.Reading.{HasRead}
 use Rattle.tdb_overlay.specs.Required.{IsDamaged}
 
@@ -17,3 +18,5 @@ pub record IsDamageOf (old new : Outside) (needed : Piece → Type 0) (damage : 
   pub is_needed : needed (damaged_piece damage size)
   pub read : HasRead old new
   pub shown : IsDamaged read.more (damaged_piece damage size) damage.found.0
+  -- an honest device doesn't show that where the piece stands
+  pub hidden : IsTrue old.honest → StandsIn old.image (damaged_piece damage size) → ⊥

@@ -1,7 +1,14 @@
+pub mod Ahead
+pub mod AheadSteps
 pub mod Chain
 pub mod Damaged
 pub mod Explained
+pub mod Opening
+pub mod Pending
 pub mod Premises
 pub mod Reads
 pub mod Records
 pub mod Replay
+pub mod Settled
+pub mod Taking
+pub mod Unwritten

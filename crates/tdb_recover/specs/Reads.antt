@@ -1,6 +1,8 @@
 -- What was read between two moments.
+use Rattle.std.specs.Prelude.{◌≡◌, ◌≤◌, ℕ, List, ◌++◌, length, IsTrue}
 use Rattle.std.specs.List.{AllByRecursion}
 use Rattle.tdb_base.specs.declared.piece.Piece.{Piece}
+use Rattle.tdb_base.specs.Trace.{ReadPiece}
 use Rattle.tdb_platform.specs.Outside.{Outside}
 use Rattle.tdb_overlay.specs.Reading.{HasRead}
 use Rattle.tdb_overlay.specs.Required.{IsReadOf}
@@ -9,3 +11,7 @@ use Rattle.tdb_overlay.specs.Required.{IsReadOf}
 pub record ReadsOnly (pieces : Piece → Type 0) (old new : Outside) : Type 0 where
   pub read : HasRead old new
   pub each : AllByRecursion (λ r. (piece : Piece) × pieces piece × IsReadOf piece r) read.more
+
+-- At most so many pieces were read between two moments.
+abbrev pub ReadsAtMost : ℕ → Outside → Outside → Type 0
+ReadsAtMost n old new = IsTrue old.tells → (more : List ReadPiece) → new.trace.read ≡ old.trace.read ++ more → length more ≤ n

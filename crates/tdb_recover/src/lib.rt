@@ -7,11 +7,15 @@
 //! the log needs.
 #![tactic(auto)]
 
+mod ahead;
 mod error;
 mod opening;
 mod records;
 mod replay;
+mod taking;
 mod texts;
 
+pub use ahead::{Pending, look_ahead};
 pub use error::OpenError;
-pub use opening::recover;
+pub use opening::{read_log, recover};
+pub use taking::take;

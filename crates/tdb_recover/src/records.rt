@@ -9,7 +9,7 @@ ghost use Rattle.tdb_overlay.specs.Placement.{LiesBelow};
 ghost use Rattle.tdb_overlay.specs.Reading.{OnlyReads};
 ghost use Rattle.tdb_seg.specs.TableSpace.{table_space};
 ghost use Rattle.tdb_recover.specs.Explained.{IsCaused, IsExplained};
-ghost use Rattle.tdb_recover.specs.Reads.{ReadsOnly};
+ghost use Rattle.tdb_recover.specs.Reads.{ReadsAtMost, ReadsOnly};
 ghost use Rattle.tdb_recover.specs.Records.{IsListIn, IsRecordIn, IsTableIn};
 ghost use Rattle.tdb_recover.specs.declared.error.OpenError.TheVariants.{Fault};
 
@@ -43,6 +43,7 @@ fn open_record<P: Platform>(
         → IsRecordIn (P.outside platform.old).trace.written (P.outside platform.new).trace keys.now name.now piece.now plain → bytes.items ≡ plain) }
     ensures only { IsTrue (P.outside platform.old).tells → IfOk result (λ _. ReadsOnly (λ p. p ≡ piece.now) (P.outside platform.old) (P.outside platform.new)) }
     ensures caused { IfErr result (IsCaused (P.outside platform.old) (P.outside platform.new)) }
+    ensures most { ReadsAtMost 1 (P.outside platform.old) (P.outside platform.new) }
     ensures quiet { result ≢ Err Fault → (P.outside platform.new).faults ≡ (P.outside platform.old).faults }
     ensures explained { IsTrue (P.outside platform.old).tells → IfErr result (λ error. (plain : List ℕ)
         → IsRecordIn (P.outside platform.old).trace.written (P.outside platform.new).trace keys.now name.now piece.now plain
@@ -69,6 +70,7 @@ pub(crate) fn read_segments<P: Platform>(
         (given : IsTableIn (P.outside platform.old).trace.written (P.outside platform.new).trace keys.now text.now) → segments ≡ table_space given.table.table (end_of text.now.first)) }
     ensures only { IsTrue (P.outside platform.old).tells → IfOk result (λ _. ReadsOnly (λ p. p ≡ text.now.first) (P.outside platform.old) (P.outside platform.new)) }
     ensures caused { IfErr result (IsCaused (P.outside platform.old) (P.outside platform.new)) }
+    ensures most { ReadsAtMost 1 (P.outside platform.old) (P.outside platform.new) }
     ensures quiet { result ≢ Err Fault → (P.outside platform.new).faults ≡ (P.outside platform.old).faults }
     ensures explained { IsTrue (P.outside platform.old).tells → IfErr result (λ error.
         IsTableIn (P.outside platform.old).trace.written (P.outside platform.new).trace keys.now text.now
@@ -111,6 +113,7 @@ pub(crate) fn read_entries<P: Platform>(
         → (given : IsListIn (P.outside platform.old).trace.written (P.outside platform.new).trace keys.now text.now changes) → entries.items ≡ given.list.entries) }
     ensures only { IsTrue (P.outside platform.old).tells → IfOk result (λ _. ReadsOnly (λ p. p ≡ text.now.first) (P.outside platform.old) (P.outside platform.new)) }
     ensures caused { IfErr result (IsCaused (P.outside platform.old) (P.outside platform.new)) }
+    ensures most { ReadsAtMost 1 (P.outside platform.old) (P.outside platform.new) }
     ensures quiet { result ≢ Err Fault → (P.outside platform.new).faults ≡ (P.outside platform.old).faults }
     ensures explained { IsTrue (P.outside platform.old).tells → IfErr result (λ error. (changes : List Change)
         → IsListIn (P.outside platform.old).trace.written (P.outside platform.new).trace keys.now text.now changes → LiesBelow segments.now.segments text.now.first

@@ -1,5 +1,5 @@
 //! The lists of a log, taken in one after another.
-ghost use Rattle.std.specs.Prelude.{◌≡◌, ◌≢◌, ◌≤◌, List, reverse, Ok, Err, OnOk, IfErr, IsTrue};
+ghost use Rattle.std.specs.Prelude.{◌≡◌, ◌≢◌, ◌≤◌, List, length, reverse, Ok, Err, OnOk, IfErr, IsTrue};
 ghost use Rattle.std.specs.List.{AllByRecursion};
 ghost use Rattle.tdb_model.specs.declared.change.Change.{Change};
 ghost use Rattle.tdb_overlay.specs.Changes.{named_records};
@@ -11,7 +11,7 @@ ghost use Rattle.tdb_overlay.specs.StoreState.{StoreState};
 ghost use Rattle.tdb_platform.specs.Outside.{Anchor};
 ghost use Rattle.tdb_recover.specs.Chain.{EachLog, EndsWith, IsBehind, IsExplainedIn, ReadsOnlyIn};
 ghost use Rattle.tdb_recover.specs.Explained.{IsCaused, IsExplained};
-ghost use Rattle.tdb_recover.specs.Reads.{ReadsOnly};
+ghost use Rattle.tdb_recover.specs.Reads.{ReadsAtMost, ReadsOnly};
 ghost use Rattle.tdb_recover.specs.Replay.{IsCommitIn, IsFormUnless, IsReplayOf, IsRest};
 ghost use Rattle.tdb_recover.specs.declared.error.OpenError.TheVariants.{Fault};
 
@@ -29,7 +29,7 @@ use tdb_seg::Segments;
 const WRITE: u32 = 1;
 
 /// Takes in where the records stand that a list names.
-fn note_records(segments: &mut Segments, entries: &[Entry]) -> Result<(), OpenError>
+pub(crate) fn note_records(segments: &mut Segments, entries: &[Entry]) -> Result<(), OpenError>
     ensures ok { OnOk result (segments.new ≡ note_all segments.old (named_records entries.now)) }
     ensures form { IfErr result (IsFormUnless (AllByRecursion (LiesBelow segments.old.segments) (named_records entries.now))) }
 {
@@ -64,6 +64,7 @@ fn replay_list<P: Platform>(
         → IsReplayOf (needed (P.outside platform.old).trace.written store anchor) store log.old before → IsReplayOf (needed (P.outside platform.old).trace.written store anchor) store log.new after) }
     ensures only { IsTrue (P.outside platform.old).tells → OnOk result (ReadsOnly (λ p. p ≡ text.now.first) (P.outside platform.old) (P.outside platform.new)) }
     ensures caused { IfErr result (IsCaused (P.outside platform.old) (P.outside platform.new)) }
+    ensures most { ReadsAtMost 1 (P.outside platform.old) (P.outside platform.new) }
     ensures quiet { result ≢ Err Fault → (P.outside platform.new).faults ≡ (P.outside platform.old).faults }
     ensures explained { IsTrue (P.outside platform.old).tells → IfErr result (λ error. (store : Store) (anchor : Anchor) (before : StoreState) (changes : List Change) (after : StoreState)
         → IsCommitIn (P.outside platform.old).trace.written (P.outside platform.new).trace keys.now store anchor before text.now changes after
@@ -100,6 +101,7 @@ pub(crate) fn replay<P: Platform>(
         → EndsWith (P.outside platform.old).trace.written keys.now whole.chain chain.base (reverse chain.commits.items)
         → ReadsOnlyIn (P.outside platform.old) (P.outside platform.new) whole)) }
     ensures caused { IfErr result (IsCaused (P.outside platform.old) (P.outside platform.new)) }
+    ensures most { ReadsAtMost (length chain.commits.items) (P.outside platform.old) (P.outside platform.new) }
     ensures quiet { result ≢ Err Fault → (P.outside platform.new).faults ≡ (P.outside platform.old).faults }
     ensures explained { IfErr result (λ error. EachLog (P.outside platform.old) (P.outside platform.new) keys.now (λ whole.
         IsRest (P.outside platform.old).trace.written whole (reverse chain.commits.items) log.old

@@ -1,5 +1,5 @@
 //! The texts of a log, read from the last one back to that of the last checkpoint.
-ghost use Rattle.std.specs.Prelude.{◌≡◌, ◌≢◌, ◌+◌, ◌<◌, ◌≤◌, [], ◌∷◌, List, reverse, Err, IfOk, IfErr, IsTrue};
+ghost use Rattle.std.specs.Prelude.{◌≡◌, ◌≢◌, ◌+◌, ◌<◌, ◌≤◌, [], ◌∷◌, List, length, reverse, Err, IfOk, IfErr, IsTrue};
 ghost use Rattle.std.specs.List.{AllByRecursion};
 ghost use Rattle.tdb_append.specs.Put.{slot_place};
 ghost use Rattle.tdb_base.specs.declared.piece.Digest.{Digest};
@@ -8,7 +8,7 @@ ghost use Rattle.tdb_mark.specs.CommitFormat.{IsInFormat};
 ghost use Rattle.tdb_overlay.specs.Reading.{OnlyReads};
 ghost use Rattle.tdb_recover.specs.Chain.{EachLog, EndsWith, IsBehind, IsExplainedIn, IsTextOf, ReadsOnlyIn};
 ghost use Rattle.tdb_recover.specs.Explained.{IsCaused, IsExplained};
-ghost use Rattle.tdb_recover.specs.Reads.{ReadsOnly};
+ghost use Rattle.tdb_recover.specs.Reads.{ReadsAtMost, ReadsOnly};
 ghost use Rattle.tdb_recover.specs.declared.error.OpenError.TheVariants.{Fault};
 
 use crate::error::OpenError;
@@ -42,6 +42,7 @@ fn read_text<P: Platform>(
         → IsTextOf (P.outside platform.old).trace.written (P.outside platform.new).trace keys.now mark.now.0 c → text ≡ c) }
     ensures only { IsTrue (P.outside platform.old).tells → IfOk result (λ _. ReadsOnly (λ piece. piece ≡ record { place = record { 0 = slot_place count }; length = 256; digest = mark.now }) (P.outside platform.old) (P.outside platform.new)) }
     ensures caused { IfErr result (IsCaused (P.outside platform.old) (P.outside platform.new)) }
+    ensures most { ReadsAtMost 1 (P.outside platform.old) (P.outside platform.new) }
     ensures quiet { result ≢ Err Fault → (P.outside platform.new).faults ≡ (P.outside platform.old).faults }
     ensures explained { IsTrue (P.outside platform.old).tells → IfErr result (λ error. (c : Commit)
         → IsTextOf (P.outside platform.old).trace.written (P.outside platform.new).trace keys.now mark.now.0 c
@@ -72,6 +73,7 @@ fn read_newest<P: Platform>(
     ensures only { IfOk result (λ _. EachLog (P.outside platform.old) (P.outside platform.new) keys.now (λ log. log.anchor ≡ (count, mark.now.0)
         → ReadsOnlyIn (P.outside platform.old) (P.outside platform.new) log)) }
     ensures caused { IfErr result (IsCaused (P.outside platform.old) (P.outside platform.new)) }
+    ensures most { ReadsAtMost 1 (P.outside platform.old) (P.outside platform.new) }
     ensures quiet { result ≢ Err Fault → (P.outside platform.new).faults ≡ (P.outside platform.old).faults }
     ensures explained { IfErr result (λ error. EachLog (P.outside platform.old) (P.outside platform.new) keys.now (λ log. log.anchor ≡ (count, mark.now.0)
         → IsExplainedIn (P.outside platform.old) (P.outside platform.new) error log)) }
@@ -105,6 +107,7 @@ fn read_before<P: Platform>(
         → EndsWith (P.outside platform.old).trace.written keys.now log.chain text.now later
         → ReadsOnlyIn (P.outside platform.old) (P.outside platform.new) log)) }
     ensures caused { IfErr result (IsCaused (P.outside platform.old) (P.outside platform.new)) }
+    ensures most { ReadsAtMost 1 (P.outside platform.old) (P.outside platform.new) }
     ensures quiet { result ≢ Err Fault → (P.outside platform.new).faults ≡ (P.outside platform.old).faults }
     ensures explained { IfErr result (λ error. EachLog (P.outside platform.old) (P.outside platform.new) keys.now (λ log. (later : List Commit)
         → EndsWith (P.outside platform.old).trace.written keys.now log.chain text.now later
@@ -144,6 +147,9 @@ pub(crate) fn read_chain<P: Platform>(
     ensures only { IfOk result (λ _. EachLog (P.outside platform.old) (P.outside platform.new) keys.now (λ log. log.anchor ≡ (count, mark.now.0)
         → ReadsOnlyIn (P.outside platform.old) (P.outside platform.new) log)) }
     ensures caused { IfErr result (IsCaused (P.outside platform.old) (P.outside platform.new)) }
+    ensures many { IfOk result (λ chain. length chain.commits.items + chain.base.count ≡ count) }
+    ensures most { ReadsAtMost 1001 (P.outside platform.old) (P.outside platform.new) }
+    ensures most_ok { IfOk result (λ chain. ReadsAtMost (length chain.commits.items + 1) (P.outside platform.old) (P.outside platform.new)) }
     ensures quiet { result ≢ Err Fault → (P.outside platform.new).faults ≡ (P.outside platform.old).faults }
     ensures explained { IfErr result (λ error. EachLog (P.outside platform.old) (P.outside platform.new) keys.now (λ log. log.anchor ≡ (count, mark.now.0)
         → IsExplainedIn (P.outside platform.old) (P.outside platform.new) error log)) }

@@ -7,9 +7,10 @@ use Rattle.tdb_overlay.specs.Reading.{OnlyReads}
 use Rattle.tdb_overlay.specs.Sound.{IsSound}
 use Rattle.tdb_overlay.specs.StoreState.{formatted_state}
 use Rattle.tdb_overlay.proofs.ReadingLaws.{reads_none}
-use Rattle.tdb_chunk.specs.Formatting.{Formatted, store_under}
+use Rattle.tdb_chunk.specs.Formatting.{Formatted, WritesFirstText, store_under}
 use Rattle.tdb_chunk.specs.declared.store_format.FormatError.{FormatError}
 use Rattle.tdb_chunk.specs.declared.store_format.FormatError.TheVariants as errors
+use Rattle.tdb_chunk.proofs.FirstTexts.{first_text_behind, first_text_unwritten}
 use Rattle.tdb_chunk.proofs.NewStores.{new_log, settled_moments, step_settled, told_settled, whatever_err, whatever_ok}
 use Rattle.tdb_chunk.proofs.store_format.lay_log.Goals.{in-Ok-format, in-Err-Memory, in-Err-Fault}
 use Rattle.tdb_chunk.proofs.store_format.lay_log.Goals as goal
@@ -112,6 +113,39 @@ returns-clause-formatted g c =
           → IsLog (outside new).trace.written store (outside new).anchor [] (formatted_state store c.args.segments)))
           (sym w.result-is) tt
     ]
+
+pub returns-in_default-clause-over_a_store : goal.returns-in_default-clause-over_a_store
+returns-in_default-clause-over_a_store g c tells some =
+    reads_none g.P.Platform.outside g.P.Platform.crash_states g.met.P.Platform.counts c.args.platform.now c.anchor.new.self c.anchor.result
+    c.anchor.ensures.trace c.anchor.ensures.image c.anchor.ensures.anchor c.anchor.ensures.now c.anchor.ensures.time c.anchor.ensures.told
+
+pub returns-then-count-ne0-clause-over_a_store : goal.returns-then-count-ne0-clause-over_a_store
+returns-then-count-ne0-clause-over_a_store g c tells some =
+    reads_none g.P.Platform.outside g.P.Platform.crash_states g.met.P.Platform.counts c.args.platform.now c.anchor.new.self c.anchor.result
+    c.anchor.ensures.trace c.anchor.ensures.image c.anchor.ensures.anchor c.anchor.ensures.now c.anchor.ensures.time c.anchor.ensures.told
+
+pub returns-clause-over_a_store : goal.returns-clause-over_a_store
+returns-clause-over_a_store g c tells some =
+    absurd (some (sym (ap (λ (a : Anchor). a.0) (c.in-Ok.ensures.given tells)) ∙ c.if-count-ne0.false))
+
+pub returns-in_default-clause-texts : goal.returns-in_default-clause-texts
+returns-in_default-clause-texts g c =
+    first_text_unwritten (g.P.Platform.outside c.args.platform.now) (g.P.Platform.outside c.anchor.new.self) c.args.secret.now
+    c.anchor.ensures.trace
+
+pub returns-then-count-ne0-clause-texts : goal.returns-then-count-ne0-clause-texts
+returns-then-count-ne0-clause-texts g c =
+    first_text_unwritten (g.P.Platform.outside c.args.platform.now) (g.P.Platform.outside c.anchor.new.self) c.args.secret.now
+    c.anchor.ensures.trace
+
+pub returns-clause-texts : goal.returns-clause-texts
+returns-clause-texts g c =
+    let outside = g.P.Platform.outside in
+    let old = c.args.platform.now in
+    let mid = c.anchor.new.self in
+    let new = c.format.new.platform in
+    first_text_behind (outside old) (outside mid) (outside new) c.args.secret.now c.anchor.ensures.told.tells c.anchor.ensures.trace
+    (subst (λ (k : List ℕ). WritesFirstText k (outside mid) (outside new)) c.new.ensures c.format.ensures.texts)
 
 pub returns-clause-moments : goal.returns-clause-moments
 returns-clause-moments g c =

@@ -1,4 +1,4 @@
-use Rattle.std.proofs.Common.{◌≡◌, ◌∙◌, ap, subst, sym, reverse, Option}
+use Rattle.std.proofs.Common.{◌≡◌, ◌∙◌, ◌+◌, ◌-◌, ◌*◌, ap, arith, length, subst, sym, reverse, Option}
 use Rattle.std.specs.Prelude.{is_some}
 use Rattle.std.proofs.lemmas.Bool.{false≢true}
 use Rattle.tdb_base.specs.declared.piece.Piece.{Piece}
@@ -15,6 +15,7 @@ use Rattle.tdb_recover.specs.Replay.{IsReplayOf}
 use Rattle.tdb_recover.proofs.Answering.{if_err_and}
 use Rattle.tdb_recover.proofs.Bases.{base_step, given_at_chain, is_recovered, rest_begins, table_in, table_opening}
 use Rattle.tdb_recover.proofs.Composing.{explained_then, given_before, given_then, tells_then, written_then, written_back}
+use Rattle.tdb_recover.proofs.Counted.{most_as, most_then}
 use Rattle.tdb_recover.proofs.Only.{only_as, only_then}
 use Rattle.tdb_recover.proofs.Showing.{explained_as}
 use Rattle.tdb_recover.proofs.opening.open_log.Goals as goal
@@ -165,3 +166,71 @@ returns-clause-only g c t whole given at =
     (written_back outside states old then both t (λ ws. ReadsOnly (IsOpeningPiece ws whole.store whole.anchor) (outside then) (outside new))
     (c.in_ok-replay.ensures.only told whole (given_then outside states old then both t (outside new).trace keys whole given) rest
     (written_then outside states old then both t (λ ws. EndsWith ws keys whole.chain chain.base later) ends)))
+
+pub returns-in_err-chain-clause-most : goal.returns-in_err-chain-clause-most
+returns-in_err-chain-clause-most g c =
+    most_as 1001 2002 (g.P.Platform.outside c.args.platform.now) (g.P.Platform.outside c.read_chain.new.platform) (omega arith)
+    c.read_chain.ensures.most
+
+pub returns-then-is_some-clause-most : goal.returns-then-is_some-clause-most
+returns-then-is_some-clause-most g c =
+    most_as 1001 2002 (g.P.Platform.outside c.args.platform.now) (g.P.Platform.outside c.read_chain.new.platform) (omega arith)
+    c.read_chain.ensures.most
+
+pub returns-in_err-segments-clause-most : goal.returns-in_err-segments-clause-most
+returns-in_err-segments-clause-most g c =
+    most_then g.P.Platform.outside g.P.Platform.crash_states 1001 1 2002 c.args.platform.now c.read_chain.new.platform
+    c.read_segments.new.platform (omega arith) c.read_chain.ensures.reads c.read_segments.ensures.reads c.read_chain.ensures.most
+    c.read_segments.ensures.most
+
+pub returns-in_err-replay-clause-most : goal.returns-in_err-replay-clause-most
+returns-in_err-replay-clause-most g c =
+    let outside = g.P.Platform.outside in
+    let states = g.P.Platform.crash_states in
+    let old = c.args.platform.now in
+    let mid = c.read_chain.new.platform in
+    let then = c.read_segments.new.platform in
+    let first = c.read_chain.ensures.reads in
+    let second = c.read_segments.ensures.reads in
+    let both = reads_then outside states g.met.P.Platform.counts old mid then first second in
+    let n = length c.in_ok-chain.chain.commits.items in
+    most_then outside states 1002 n 2002 old then c.replay.new.platform
+    (omega (arith, c.in_ok-chain.ensures.many, c.in_ok-chain.ensures.counts.1)) both c.replay.ensures.reads
+    (most_then outside states 1001 1 1002 old mid then (omega arith) first second c.read_chain.ensures.most c.read_segments.ensures.most)
+    c.replay.ensures.most
+
+pub returns-clause-most : goal.returns-clause-most
+returns-clause-most g c =
+    let outside = g.P.Platform.outside in
+    let states = g.P.Platform.crash_states in
+    let old = c.args.platform.now in
+    let mid = c.read_chain.new.platform in
+    let then = c.read_segments.new.platform in
+    let first = c.read_chain.ensures.reads in
+    let second = c.read_segments.ensures.reads in
+    let both = reads_then outside states g.met.P.Platform.counts old mid then first second in
+    let n = length c.in_ok-chain.chain.commits.items in
+    most_then outside states 1002 n 2002 old then c.replay.new.platform
+    (omega (arith, c.in_ok-chain.ensures.many, c.in_ok-chain.ensures.counts.1)) both c.replay.ensures.reads
+    (most_then outside states 1001 1 1002 old mid then (omega arith) first second c.read_chain.ensures.most c.read_segments.ensures.most)
+    c.replay.ensures.most
+
+pub returns-clause-most_ok : goal.returns-clause-most_ok
+returns-clause-most_ok g c =
+    let outside = g.P.Platform.outside in
+    let states = g.P.Platform.crash_states in
+    let old = c.args.platform.now in
+    let mid = c.read_chain.new.platform in
+    let then = c.read_segments.new.platform in
+    let first = c.read_chain.ensures.reads in
+    let second = c.read_segments.ensures.reads in
+    let both = reads_then outside states g.met.P.Platform.counts old mid then first second in
+    let n = length c.in_ok-chain.chain.commits.items in
+    let head = c.replay.new.log.head in
+    let count = ap (λ (h : Head). h.count) c.in_ok-replay.ensures.head in
+    let base = ap (λ (h : Head). h.base) c.in_ok-replay.ensures.head in
+    most_then outside states (n + 2) n (2 * (head.count - head.base) + 2) old then c.replay.new.platform
+    (omega (arith, c.in_ok-chain.ensures.many, count, base)) both c.replay.ensures.reads
+    (most_then outside states (n + 1) 1 (n + 2) old mid then (omega arith) first second c.in_ok-chain.ensures.most_ok
+    c.read_segments.ensures.most)
+    c.replay.ensures.most

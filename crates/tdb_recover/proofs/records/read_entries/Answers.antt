@@ -1,14 +1,19 @@
-use Rattle.std.proofs.Common.{◌≡◌, ◌∙◌, ap, sym, subst, Err}
+use Rattle.std.proofs.Common.{◌≡◌, ◌∙◌, ap, refl, sym, subst, Err}
 use Rattle.std.proofs.lemmas.Bool.{false≢true}
 use Rattle.tdb_list.specs.ChangeList.{IsChangeList}
 use Rattle.tdb_overlay.proofs.ReadingLaws.{reads_nothing}
 use Rattle.tdb_recover.specs.Explained.{IsExplained}
 use Rattle.tdb_recover.proofs.Answering.{if_err_and}
+use Rattle.tdb_recover.proofs.Counted.{most_none}
 use Rattle.tdb_recover.proofs.Tables.{list_is, list_record}
 use Rattle.tdb_recover.proofs.records.read_entries.Goals as goal
 
 pub returns-then-not-holds-clause-reads : goal.returns-then-not-holds-clause-reads
 returns-then-not-holds-clause-reads g c = reads_nothing g.P.Platform.outside g.P.Platform.crash_states g.met.P.Platform.counts c.args.platform.now
+
+pub returns-then-not-holds-clause-most : goal.returns-then-not-holds-clause-most
+returns-then-not-holds-clause-most g c =
+    most_none 1 (g.P.Platform.outside c.args.platform.now) (g.P.Platform.outside c.args.platform.now) (λ t. refl)
 
 pub returns-then-not-holds-clause-explained : goal.returns-then-not-holds-clause-explained
 returns-then-not-holds-clause-explained g c t changes given lies = false≢true (sym c.if-not-holds.true ∙ c.holds.ensures.1 lies)

@@ -1,4 +1,4 @@
-use Rattle.std.proofs.Common.{◌≡◌, ◌∙◌, ◌+◌, ap, sym, subst, ℕ}
+use Rattle.std.proofs.Common.{◌≡◌, ◌∙◌, ◌+◌, ap, refl, sym, subst, ℕ}
 use Rattle.std.proofs.lemmas.Bool.{false≢true}
 use Rattle.tdb_node.specs.declared.table.Table.{Table}
 use Rattle.tdb_node.specs.SegmentTable.{IsUsed, table_bytes}
@@ -8,12 +8,17 @@ use Rattle.tdb_seg.specs.SegmentSpace.{EndsInSegment, SegmentSpace}
 use Rattle.tdb_seg.specs.TableSpace.{table_space}
 use Rattle.tdb_recover.specs.Explained.{IsExplained}
 use Rattle.tdb_recover.proofs.Answering.{if_err_and}
+use Rattle.tdb_recover.proofs.Counted.{most_none}
 use Rattle.tdb_recover.proofs.Tables.{table_is, table_lies, table_record, table_spelled, table_tail}
 use Rattle.tdb_recover.proofs.records.read_segments.Goals as goal
 use Rattle.tdb_recover.proofs.records.read_segments.Goals.{then-table-text-via-then-table-text, then-table-text-via-else-table-text+then-not-is_tail}
 
 pub returns-then-not-holds-clause-reads : goal.returns-then-not-holds-clause-reads
 returns-then-not-holds-clause-reads g c = reads_nothing g.P.Platform.outside g.P.Platform.crash_states g.met.P.Platform.counts c.args.platform.now
+
+pub returns-then-not-holds-clause-most : goal.returns-then-not-holds-clause-most
+returns-then-not-holds-clause-most g c =
+    most_none 1 (g.P.Platform.outside c.args.platform.now) (g.P.Platform.outside c.args.platform.now) (λ t. refl)
 
 pub returns-then-not-holds-clause-explained : goal.returns-then-not-holds-clause-explained
 returns-then-not-holds-clause-explained g c t given =

@@ -1,6 +1,6 @@
-use Rattle.std.proofs.Common.{◌≡◌, ◌∙◌, ◌∷◌, ◌++◌, [], List, arith, ap, subst, sym, refl, reverse, append_assoc}
+use Rattle.std.proofs.Common.{◌≡◌, ◌∙◌, ◌-◌, ◌∷◌, ◌++◌, [], List, arith, ap, length, subst, sym, refl, reverse, append_assoc}
 use Rattle.std.specs.List.{AllByRecursion}
-use Rattle.std.proofs.lemmas.List.{nil_from_length}
+use Rattle.std.proofs.lemmas.List.{length-append, nil_from_length}
 use Rattle.tdb_mark.specs.declared.commit.Commit.{Commit}
 use Rattle.tdb_overlay.specs.Needed.{needed}
 use Rattle.tdb_overlay.specs.Required.{IsOpeningPiece}
@@ -11,6 +11,7 @@ use Rattle.tdb_recover.specs.Replay.{IsCommitIn, IsReplayOf, IsRest}
 use Rattle.tdb_recover.proofs.Answering.{if_err_and}
 use Rattle.tdb_recover.proofs.Behind.{reverse_push}
 use Rattle.tdb_recover.proofs.Composing.{caused_later, explained_then, given_before, tells_then, written_then, written_back}
+use Rattle.tdb_recover.proofs.Counted.{most_as, most_none, most_then}
 use Rattle.tdb_recover.proofs.Only.{only_as, only_none, only_then}
 use Rattle.tdb_recover.proofs.Rest.{list_opening, next_commit, rest_ends, rest_goes}
 use Rattle.tdb_recover.proofs.Showing.{explained_as}
@@ -28,6 +29,9 @@ loop-text-init g c = record {
   only = λ t whole given rest ends.
       let old = g.P.Platform.outside c.args.platform.now in
       only_none old old (IsOpeningPiece old.trace.written whole.store whole.anchor) refl;
+  left = omega arith;
+  most = most_none (length c.args.chain.commits.items - length c.args.chain.commits.items) (g.P.Platform.outside c.args.platform.now)
+      (g.P.Platform.outside c.args.platform.now) (λ t. refl);
 }
 
 pub loop-text-smaller : goal.loop-text-smaller
@@ -83,6 +87,12 @@ loop-text-preserved g c =
           list_opening (outside old).trace.written (outside new).trace keys whole given base text so_far.done.0 (reverse left) (reverse c.args.chain.commits.items) piece ends
           (so_far.done.1 ∙ ap (λ (l : List Commit). so_far.done.0 ++ l) popped) behind.0 same)
           (c.in_ok-replay_list.ensures.only then));
+      left = omega (arith, so_far.left, ap length c.in-Some.ensures.items, length-append left (text ∷ []));
+      most =
+          let all = length c.args.chain.commits.items in
+          most_then outside states (all - length c.loop-text.commits.items) 1 (all - length left) old mid new
+          (omega (arith, so_far.left, ap length c.in-Some.ensures.items, length-append left (text ∷ []))) first c.replay_list.ensures.reads
+          so_far.most c.replay_list.ensures.most;
     }
 
 pub returns-in_err-replay_list-clause-reads : goal.returns-in_err-replay_list-clause-reads
@@ -148,3 +158,19 @@ returns-clause-replayed g c t whole given rest ends =
 
 pub returns-clause-only : goal.returns-clause-only
 returns-clause-only g c = c.loop-text.invariant.only
+
+pub returns-in_err-replay_list-clause-most : goal.returns-in_err-replay_list-clause-most
+returns-in_err-replay_list-clause-most g c =
+    let so_far = c.loop-text.invariant in
+    let left = c.pop.new.self.items in
+    let all = length c.args.chain.commits.items in
+    most_then g.P.Platform.outside g.P.Platform.crash_states (all - length c.loop-text.commits.items) 1 all c.args.platform.now
+    c.loop-text.platform c.replay_list.new.platform
+    (omega (arith, so_far.left, ap length c.in-Some.ensures.items, length-append left (c.in-Some.text ∷ []))) so_far.reads
+    c.replay_list.ensures.reads so_far.most c.replay_list.ensures.most
+
+pub returns-clause-most : goal.returns-clause-most
+returns-clause-most g c =
+    let all = length c.args.chain.commits.items in
+    most_as (all - length c.loop-text.commits.items) all (g.P.Platform.outside c.args.platform.now)
+    (g.P.Platform.outside c.loop-text.platform) (omega arith) c.loop-text.invariant.most

@@ -1,8 +1,9 @@
-use Rattle.std.proofs.Common.{◌≡◌, ◌++◌, List, reverse, vec_len}
+use Rattle.std.proofs.Common.{◌≡◌, ◌-◌, ◌≤◌, ◌++◌, List, length, reverse, vec_len}
 use Rattle.std.specs.List.{AllByRecursion}
 use Rattle.tdb_mark.specs.declared.commit.Commit.{Commit}
 use Rattle.tdb_overlay.specs.Reading.{OnlyReads}
 use Rattle.tdb_recover.specs.Chain.{EachLog, EndsWith, IsBehind, ReadsOnlyIn}
+use Rattle.tdb_recover.specs.Reads.{ReadsAtMost}
 use Rattle.tdb_recover.specs.Replay.{IsRest}
 use Rattle.tdb_recover.proofs.replay.replay.Given as goal
 
@@ -22,6 +23,9 @@ invariant-loop-text g l = record {
       IsRest (g.P.Platform.outside l.fn.platform).trace.written whole (reverse l.fn.chain.commits.items) l.fn.log
       → EndsWith (g.P.Platform.outside l.fn.platform).trace.written l.keys whole.chain l.fn.chain.base (reverse l.fn.chain.commits.items)
       → ReadsOnlyIn (g.P.Platform.outside l.fn.platform) (g.P.Platform.outside l.platform) whole);
+  left : length l.commits.items ≤ length l.fn.chain.commits.items;
+  most : ReadsAtMost (length l.fn.chain.commits.items - length l.commits.items) (g.P.Platform.outside l.fn.platform)
+      (g.P.Platform.outside l.platform);
 }
 
 abbrev pub decreases-loop-text : goal.decreases-loop-text

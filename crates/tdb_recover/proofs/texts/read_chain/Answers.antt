@@ -1,4 +1,5 @@
-use Rattle.std.proofs.Common.{◌∙◌, ◌∷◌, List, arith, ap, subst, sym, reverse}
+use Rattle.std.proofs.Common.{◌∙◌, ◌+◌, ◌∷◌, [], List, arith, ap, length, subst, sym, reverse}
+use Rattle.std.proofs.lemmas.List.{length-append}
 use Rattle.tdb_mark.specs.declared.commit.Commit.{Commit}
 use Rattle.tdb_overlay.specs.Required.{IsOpeningPiece}
 use Rattle.tdb_overlay.proofs.ReadingLaws.{reads_then}
@@ -9,6 +10,7 @@ use Rattle.tdb_recover.specs.Reads.{ReadsOnly}
 use Rattle.tdb_recover.proofs.Answering.{if_err_and}
 use Rattle.tdb_recover.proofs.Behind.{behind_pushed, reverse_push}
 use Rattle.tdb_recover.proofs.Composing.{caused_later, explained_then, given_before, given_then, tells_then, written_then, written_back}
+use Rattle.tdb_recover.proofs.Counted.{most_as, most_then}
 use Rattle.tdb_recover.proofs.Ends.{base_not_later}
 use Rattle.tdb_recover.proofs.Only.{only_then}
 use Rattle.tdb_recover.proofs.Showing.{explained_as}
@@ -23,7 +25,15 @@ loop-text-init g c = record {
   ends = λ t log given at. subst (λ (l : List Commit). EndsWith (g.P.Platform.outside c.args.platform.now).trace.written c.args.keys.now log.chain c.in_ok-text.text (reverse l)) (sym c.new-commits.ensures.items) (c.in_ok-text.ensures.ends t log given at);
   quiet = c.in_ok-text.ensures.quiet (λ same. cc same);
   only = c.in_ok-text.ensures.only;
+  many = omega (arith, ap length c.new-commits.ensures.items, c.in_ok-text.ensures.counts.0);
+  most = most_as 1 (length c.new-commits.result.items + 1) (g.P.Platform.outside c.args.platform.now)
+      (g.P.Platform.outside c.read_newest.new.platform) (omega arith) c.read_newest.ensures.most;
 }
+
+pub returns-in_err-text-clause-most : goal.returns-in_err-text-clause-most
+returns-in_err-text-clause-most g c =
+    most_as 1 1001 (g.P.Platform.outside c.args.platform.now) (g.P.Platform.outside c.read_newest.new.platform) (omega arith)
+    c.read_newest.ensures.most
 
 pub read_before-requires-clause-format : goal.read_before-requires-clause-format
 read_before-requires-clause-format g c = c.loop-text.invariant.format
@@ -102,6 +112,11 @@ loop-text-preserved g c =
           (written_back outside states old mid first t (λ ws. ReadsOnly (IsOpeningPiece ws log.store log.anchor) (outside mid) (outside new))
           (c.in_ok-earlier.ensures.only then log (given_then outside states old mid first t (outside new).trace keys log given) (reverse commits)
           (written_then outside states old mid first t (λ ws. EndsWith ws keys log.chain text (reverse commits)) ends)));
+      many = omega
+          (arith, ap length c.in_ok-push.ensures.items, length-append commits (text ∷ []), so_far.many, c.in_ok-earlier.ensures.counts);
+      most = most_then outside states (length commits + 1) 1 (length c.push.new.self.items + 1) old mid new
+          (omega (arith, ap length c.in_ok-push.ensures.items, length-append commits (text ∷ []))) first c.read_before.ensures.reads
+          so_far.most c.read_before.ensures.most;
     }
 
 pub returns-clause-reads : goal.returns-clause-reads
@@ -128,3 +143,32 @@ returns-clause-ends g c = c.loop-text.invariant.ends
 
 pub returns-clause-only : goal.returns-clause-only
 returns-clause-only g c = c.loop-text.invariant.only
+
+pub returns-in_err-earlier-clause-most : goal.returns-in_err-earlier-clause-most
+returns-in_err-earlier-clause-most g c =
+    let so_far = c.loop-text.invariant in
+    most_then g.P.Platform.outside g.P.Platform.crash_states (length c.loop-text.commits.items + 1) 1 1001 c.args.platform.now
+    c.loop-text.platform c.read_before.new.platform (omega (arith, so_far.many, so_far.counts.1, c.loop-text-test.true)) so_far.reads
+    c.read_before.ensures.reads
+    so_far.most c.read_before.ensures.most
+
+pub returns-in_err-push-clause-most : goal.returns-in_err-push-clause-most
+returns-in_err-push-clause-most g c =
+    let so_far = c.loop-text.invariant in
+    most_then g.P.Platform.outside g.P.Platform.crash_states (length c.loop-text.commits.items + 1) 1 1001 c.args.platform.now
+    c.loop-text.platform c.read_before.new.platform (omega (arith, so_far.many, so_far.counts.1, c.loop-text-test.true)) so_far.reads
+    c.read_before.ensures.reads
+    so_far.most c.read_before.ensures.most
+
+pub returns-clause-many : goal.returns-clause-many
+returns-clause-many g c = c.loop-text.invariant.many
+
+pub returns-clause-most : goal.returns-clause-most
+returns-clause-most g c =
+    let so_far = c.loop-text.invariant in
+    let least = base_not_later c.loop-text.text so_far.format in
+    most_as (length c.loop-text.commits.items + 1) 1001 (g.P.Platform.outside c.args.platform.now)
+    (g.P.Platform.outside c.loop-text.platform) (omega (arith, so_far.many, so_far.counts.1, least)) so_far.most
+
+pub returns-clause-most_ok : goal.returns-clause-most_ok
+returns-clause-most_ok g c = c.loop-text.invariant.most

@@ -1,8 +1,9 @@
-use Rattle.std.proofs.Common.{◌-◌, ◌≡◌, ◌+◌, ◌≤◌, reverse}
+use Rattle.std.proofs.Common.{◌-◌, ◌≡◌, ◌+◌, ◌≤◌, length, reverse}
 use Rattle.std.specs.List.{AllByRecursion}
 use Rattle.tdb_mark.specs.CommitFormat.{IsInFormat}
 use Rattle.tdb_overlay.specs.Reading.{OnlyReads}
 use Rattle.tdb_recover.specs.Chain.{EachLog, EndsWith, IsBehind, ReadsOnlyIn}
+use Rattle.tdb_recover.specs.Reads.{ReadsAtMost}
 use Rattle.tdb_recover.proofs.texts.read_chain.Given as goal
 
 abbrev pub invariant-loop-text : goal.invariant-loop-text
@@ -16,6 +17,8 @@ invariant-loop-text g l = record {
   quiet : (g.P.Platform.outside l.platform).faults ≡ (g.P.Platform.outside l.fn.platform).faults;
   only : EachLog (g.P.Platform.outside l.fn.platform) (g.P.Platform.outside l.platform) l.keys (λ log. log.anchor ≡ (l.count, l.mark.0)
       → ReadsOnlyIn (g.P.Platform.outside l.fn.platform) (g.P.Platform.outside l.platform) log);
+  many : length l.commits.items + l.text.count ≡ l.count;
+  most : ReadsAtMost (length l.commits.items + 1) (g.P.Platform.outside l.fn.platform) (g.P.Platform.outside l.platform);
 }
 
 abbrev pub decreases-loop-text : goal.decreases-loop-text

@@ -14,6 +14,7 @@ use Rattle.tdb_overlay.proofs.Coverings.{covering_none}
 use Rattle.tdb_chunk.specs.Formatting.{Formatted, store_under}
 use Rattle.tdb_chunk.specs.Stepping.{IsPutStep}
 use Rattle.tdb_chunk.specs.Text.{anchor_of, text_in_slot}
+use Rattle.tdb_chunk.proofs.FirstTexts.{first_text}
 use Rattle.tdb_chunk.proofs.Keeping.{format_keeps}
 use Rattle.tdb_chunk.proofs.Growing.{added_always, added_err, added_ok, none_added}
 use Rattle.tdb_overlay.proofs.PutLogs.{unread_by}
@@ -73,6 +74,33 @@ returns-in_default-clause-unread g c tells = unread_by _ _ c.put_commit.ensures.
 
 pub returns-clause-unread : goal.returns-clause-unread
 returns-clause-unread g c tells = unread_by _ _ c.put_commit.ensures.puts.done (c.put_commit.ensures.puts.wrote.trace tells)
+
+pub returns-in_default-clause-texts : goal.returns-in_default-clause-texts
+returns-in_default-clause-texts g c =
+    let outside = g.P.Platform.outside in
+    let secret : List ℕ = c.args.keys in
+    let store : Store = store_under secret c.args.suite in
+    let commit = c.in_ok-commit.field-0.commit in
+    let batch = c.in_ok-commit.field-0.batch in
+    let ps : List Placed = placed batch.pieces.items in
+    let puts = subst (λ (l : List Laid). Puts outside g.P.Platform.crash_states c.args.platform.now c.put_commit.new.platform
+    (placed l ++ text_in_slot secret commit ∷ []) (anchor_of secret commit) c.put_commit.result)
+    c.deref.ensures.value c.put_commit.ensures.puts in
+    first_text outside g.P.Platform.crash_states store c.no_head-head.result c.args.segments commit ps batch.segments
+    c.args.platform.now c.put_commit.new.platform c.put_commit.result
+    c.in_ok-commit.ensures.start c.no_head-head.ensures.count c.put_commit.ensures.reads puts
+
+pub returns-clause-texts : goal.returns-clause-texts
+returns-clause-texts g c =
+    let outside = g.P.Platform.outside in
+    let secret : List ℕ = c.args.keys in
+    let store : Store = store_under secret c.args.suite in
+    let commit = c.in_ok-commit.field-0.commit in
+    let batch = c.in_ok-commit.field-0.batch in
+    let ps : List Placed = placed batch.pieces.items in
+    let puts = subst (λ (l : List Laid). Puts outside g.P.Platform.crash_states c.args.platform.now c.put_commit.new.platform (placed l ++ text_in_slot secret commit ∷ []) (anchor_of secret commit) c.put_commit.result) c.deref.ensures.value c.put_commit.ensures.puts in
+    first_text outside g.P.Platform.crash_states store c.no_head-head.result c.args.segments commit ps batch.segments c.args.platform.now c.put_commit.new.platform c.put_commit.result
+    c.in_ok-commit.ensures.start c.no_head-head.ensures.count c.put_commit.ensures.reads puts
 
 pub returns-clause-knows : goal.returns-clause-knows
 returns-clause-knows g c =

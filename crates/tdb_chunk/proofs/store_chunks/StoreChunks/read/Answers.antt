@@ -39,7 +39,7 @@ returns g c =
     record {
       read = as_seen outside crash_states c.args.part c.args.rank _ _ _ _ c.self.view_is refl
           (has_read outside crash_states g.met.P.Platform.counts g.met.P.Platform.numbered _ c.args.part c.args.rank c.in-Some.leader
-          c.in-Here.piece c.if-self.false c.in-Some.ensures c.in-Here.ensures c.read_chunk.new.platform c.read_chunk.result (record {
+          c.in-Here.piece c.self.invariant c.if-self.false c.in-Some.ensures c.in-Here.ensures c.read_chunk.new.platform c.read_chunk.result (record {
             reads = e.reads;
             bytes = e.bytes;
             tampered = e.tampered;
