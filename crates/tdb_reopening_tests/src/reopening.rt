@@ -373,13 +373,13 @@ fn run_deceived(
 fn what_a_read_shows_counts_for_that_read(rt: HostRuntime) -> Result<(), Fail> {
     let alloc = rt.alloc();
     let script = b"begin 1\nget 1 1\nget 1 1\nget 1 1\nquit\n".as_slice();
-    // Six reads open the store: three texts, the table and two lists.
+    // Seven reads open the store: three texts, the table, two lists and the next slot.
     let note = Kept {
         kind: Kind::Record(1),
         place: 262_928,
         length: 69,
     };
-    let (status, put) = run_deceived(alloc, script, 8, &note)?;
+    let (status, put) = run_deceived(alloc, script, 9, &note)?;
     assert_eq!(rt; status, DONE);
     assert!(rt;
         put.as_slice()

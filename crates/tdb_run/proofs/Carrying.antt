@@ -9,16 +9,21 @@ use Rattle.tdb_serve.proofs.Conversing.{no_conversation}
 use Rattle.tdb_stream.specs.SinkContent.{SinkContent}
 use Rattle.tdb_stream.specs.SourceContent.{SourceContent}
 use Rattle.tdb_overlay.specs.Found.{Store}
+use Rattle.tdb_overlay.specs.Images.{IsReliable}
 use Rattle.tdb_overlay.specs.StoreState.{StoreState}
+use Rattle.tdb_overlay.specs.WellFormedLog.{EachText}
 use Rattle.tdb_recover.specs.Premises.{Premises}
 use Rattle.tdb_chunk.specs.StoreView.{StoreView}
 use Rattle.tdb_run.specs.Calls.{Calls, StopFaults}
 use Rattle.tdb_run.specs.Command.{IsFormat, IsNoCommand}
 use Rattle.tdb_run.specs.Conversed.{Conversed, TellsFaults}
 use Rattle.tdb_run.specs.Ends.{status_of_stop}
-use Rattle.tdb_run.specs.Opened.{HasNotOpened, HasOpened, IsWhyNot}
+use Rattle.tdb_run.specs.Opened.{HasBegun, HasNotBegun}
+use Rattle.tdb_run.specs.Opens.{HasUserPartitions}
 use Rattle.tdb_run.specs.Run.{CarriedOut, EndsBy, FitsWords, OverLog}
 use Rattle.tdb_run.specs.Scripted.{RanScript}
+use Rattle.tdb_run.specs.Spared.{IsSpared}
+use Rattle.tdb_run.specs.Undamaged.{TellsNoDamage}
 use Rattle.tdb_run.specs.declared.opening.NotOpened.{NotOpened}
 use Rattle.tdb_run.specs.declared.status.Status.{Status}
 use Rattle.tdb_run.specs.declared.status.Status.TheVariants.{Done, Usage}
@@ -27,8 +32,10 @@ use Rattle.tdb_overlay.proofs.SealedPuts.{only_sealed_none}
 use Rattle.tdb_base.proofs.Tracing.{extends_itself}
 use Rattle.tdb_run.proofs.EndingBy.{ends_in_usage}
 use Rattle.tdb_run.proofs.Endings.{conversed_none, faults_since, stop_faults, stops_at_once}
+use Rattle.tdb_run.proofs.OpeningLaws.{calls_then}
 use Rattle.tdb_run.proofs.Partitions.{keeps_partitions, run_of_run}
-use Rattle.tdb_run.proofs.Whole.{Over, calls_along, over_new_store, over_no_store, over_script}
+use Rattle.tdb_run.proofs.TellingNone.{none_told_new, none_told_script, none_told_stopped}
+use Rattle.tdb_run.proofs.Whole.{Over, over_new_store, over_no_store, over_script}
 
 module _ {D : Type 0} (outside : D → Outside) (crash_states : D → CrashStates)
     (counts : (p : D) (t u : ℕ) (i : List ℕ) (a : Anchor) → t ≤ u → u ≤ (outside p).clock → crash_states p u i a → crash_states p t i a)
@@ -38,37 +45,44 @@ module _ {D : Type 0} (outside : D → Outside) (crash_states : D → CrashState
   over_log : (new : D) (status : Status) (talk : Conversed came gone before after status) (store : Store) (history : History)
       (from : StoreState) → Premises (outside old) (outside new) secret store history from
       → Over outside crash_states store talk.conversation old new history from status
+      → (IsReliable outside crash_states store old → HasUserPartitions from.chunks
+      → EachText (outside old).trace.written store.secret (λ last. HasUserPartitions last.chunks)
+      → TellsNoDamage status talk.conversation.replies)
       → OverLog outside crash_states status talk old new store history from
-  over_log new status talk store history from p o = record {
+  over_log new status talk store history from p o undamaged = record {
     ran = o.ran;
     stops = o.stops;
     partitions = keeps_partitions (outside old).trace.written (outside new).trace.written store (outside old).anchor history
         (o.ran.opening ++ ((o.ran.added ++ o.ran.own) ++ o.ran.maybe)) from p.log
-        (run_of_run outside crash_states store talk.conversation old new from status o.ran);
+        (run_of_run outside crash_states store talk.conversation old new history from status o.ran);
+    undamaged = undamaged;
   }
 
   -- a store was opened, and its script answered
-  pub carried_script : (s : StoreView D) (new : D) (status : Status)
+  pub carried_script : ((p : D) → IsTrue (outside p).honest → IsTrue (outside p).tells
+      → crash_states p (outside p).clock (outside p).image (outside p).anchor) → (s : StoreView D) (new : D) (status : Status)
       (both : (talk : Conversed came gone before after status) × RanScript outside crash_states talk.conversation status s new)
       → s.secret ≡ secret → Calls outside crash_states secret old s.platform → Calls outside crash_states s.secret s.platform new
       → ((store : Store) (history : History) (from : StoreState)
-      → Premises (outside old) (outside s.platform) secret store history from → FitsWords words store
-      → HasOpened outside crash_states store old history from s)
+      → Premises (outside old) (outside s.platform) secret store history from → FitsWords (outside old) words store
+      → HasBegun outside crash_states store old history from s)
       → (outside s.platform).faults ≡ (outside old).faults
       → TellsFaults came gone before after (outside s.platform) (outside new) status
       → EndsBy outside crash_states words old new status
       → CarriedOut outside crash_states words secret came gone before after old new status
-  carried_script s new status both same first next opened quiet faults ends_by =
+  carried_script as_it_reads s new status both same first next opened quiet faults ends_by =
       let then : Calls outside crash_states secret s.platform new =
       subst (λ (k : List ℕ). Calls outside crash_states k s.platform new) same next in
       record {
         talk = both.0;
         over = λ command store history from p fits. over_log new status both.0 store history from p
             (over_script outside crash_states counts numbered secret store history from old new s came gone both.0.conversation status
-            first then p (λ q. opened store history from q fits) both.1);
+            first then p (λ q. opened store history from q fits) both.1)
+            (λ reliable has each. none_told_script outside crash_states counts numbered as_it_reads secret store history from old new s came
+            gone both.0.conversation status first then p (λ q. opened store history from q fits) both.1 reliable);
         ends_by = ends_by;
         faults = faults_since came gone before after (outside old) (outside s.platform) (outside new) quiet status faults;
-        calls = calls_along outside crash_states counts numbered secret old s.platform new first then;
+        calls = calls_then outside crash_states counts numbered secret old s.platform new first then;
       }
 
 module _ {D : Type 0} (outside : D → Outside) (crash_states : D → CrashStates)
@@ -78,20 +92,23 @@ module _ {D : Type 0} (outside : D → Outside) (crash_states : D → CrashState
   -- no store was opened
   pub carried_none : (new : D) (why : NotOpened) (status : Status) → status ≡ status_of_stop why
       → ((store : Store) (history : History) (from : StoreState) → Premises (outside old) (outside new) secret store history from
-      → FitsWords words store
-      → HasNotOpened outside crash_states store old new from × IsWhyNot store (outside old) (outside new) from why)
+      → FitsWords (outside old) words store
+      → HasNotBegun outside crash_states store old new history from why)
+      → ((store : Store) (history : History) (from : StoreState) → Premises (outside old) (outside new) secret store history from
+      → FitsWords (outside old) words store → IsSpared outside crash_states store old from why)
       → Calls outside crash_states secret old new → StopFaults (outside old) (outside new) why
       → EndsBy outside crash_states words old new (status_of_stop why)
       → CarriedOut outside crash_states words secret came came before before old new status
-  carried_none new why status is opened calls faults ends_by =
+  carried_none new why status is opened spared calls faults ends_by =
       subst (λ (t : Status). CarriedOut outside crash_states words secret came came before before old new t) (sym is)
       (record {
         talk = conversed_none came before (status_of_stop why) (stops_at_once why);
         over = λ command store history from p fits.
-            let h = opened store history from p fits in
             over_log outside crash_states counts numbered words secret came came before before old new (status_of_stop why)
             (conversed_none came before (status_of_stop why) (stops_at_once why)) store history from p
-            (over_no_store outside crash_states counts numbered secret store history from old new came why calls.tells p h.0 h.1);
+            (over_no_store outside crash_states counts numbered secret store history from old new came why calls.tells p
+            (opened store history from p fits))
+            (λ reliable has each. none_told_stopped why (spared store history from p fits reliable has each));
         ends_by = ends_by;
         faults = stop_faults came before (outside old) (outside new) why faults;
         calls = calls;
@@ -99,24 +116,25 @@ module _ {D : Type 0} (outside : D → Outside) (crash_states : D → CrashState
 
   -- a store was made, and that was all
   pub carried_new : (s : StoreView D) (suite : Suite) (segments : ℕ) → IsFormat words suite segments
-      → Calls outside crash_states secret old s.platform
+      → (IsTrue (outside old).tells → (outside old).anchor.0 ≡ 0) → Calls outside crash_states secret old s.platform
       → ((store : Store) (history : History) (from : StoreState)
-      → Premises (outside old) (outside s.platform) secret store history from → store.suite ≡ suite
-      → HasOpened outside crash_states store old history from s)
+      → Premises (outside old) (outside s.platform) secret store history from → ((outside old).anchor.0 ≡ 0 → store.suite ≡ suite)
+      → HasBegun outside crash_states store old history from s)
       → (outside s.platform).faults ≡ (outside old).faults
       → EndsBy outside crash_states words old s.platform (Done (Formatted suite segments))
       → CarriedOut outside crash_states words secret came came before before old s.platform (Done (Formatted suite segments))
-  carried_new s suite segments format calls opened quiet ends_by = record {
+  carried_new s suite segments format none calls opened quiet ends_by = record {
     talk = conversed_none came before (Done (Formatted suite segments)) tt;
     over = λ command store history from p fits.
-        let same : store.suite ≡ suite = fits suite segments (inr format) in
+        let same : store.suite ≡ suite = fits (none p.tells) suite segments (inr format) in
         over_log outside crash_states counts numbered words secret came came before before old s.platform (Done (Formatted suite segments))
         (conversed_none came before (Done (Formatted suite segments)) tt) store history from p
         (subst (λ (u : Suite). Over outside crash_states store (no_conversation came) old s.platform history from
         (Done (Formatted u segments)))
         same
         (over_new_store outside crash_states counts numbered secret store history from old s came segments calls.tells p
-        (opened store history from p same)));
+        (opened store history from p (λ zero. same))))
+        (λ reliable has each. none_told_new (Formatted suite segments));
     ends_by = ends_by;
     faults = (refl, refl, quiet);
     calls = calls;

@@ -7,6 +7,7 @@ use Rattle.tdb_serve.specs.declared.script_end.ScriptEnd.{ScriptEnd}
 use Rattle.tdb_serve.specs.declared.script_end.ScriptEnd.TheVariants as ends
 use Rattle.tdb_overlay.specs.Growth.{IsSettled}
 use Rattle.tdb_overlay.specs.Reading.{OnlyReads}
+use Rattle.tdb_recover.specs.Unwritten.{WritesNothing}
 use Rattle.tdb_run.specs.Command.{IsFormat, IsNoCommand, IsRun, IsStart, MakesStore}
 use Rattle.tdb_run.specs.Ends.{status_of_end, status_of_stop}
 use Rattle.tdb_run.specs.Run.{EndsBy}
@@ -176,20 +177,21 @@ module _ {D : Type 0} (outside : D → Outside) (crash_states : D → CrashState
 
       -- and the store wasn't opened
       pub ends_unopened : (why : NotOpened)
-          → (why ≢ stops.PlatformFault → OnlyReads outside crash_states old new × IsSettled outside crash_states new)
-          → (why ≡ stops.Unformatted → IsTrue (outside old).tells → (outside old).anchor.0 ≡ 0)
+          → (why ≢ stops.PlatformFault → WritesNothing outside crash_states old new × IsSettled outside crash_states new)
+          → (why ≡ stops.Unformatted → (IsTrue (outside old).tells → (outside old).anchor.0 ≡ 0)
+          × OnlyReads outside crash_states old new × IsSettled outside crash_states new)
           → (IsTrue (outside old).tells → (outside old).anchor.0 ≡ 0 → (why ≡ stops.Unformatted) ⊎ (why ≡ stops.PlatformFault))
           → why ≢ stops.AlreadyFormatted → EndsBy outside crash_states words old new (status_of_stop why)
-      ends_unopened why reads unformatted always never = record {
+      ends_unopened why unwritten unformatted always never = record {
         usage = (λ is. absurd (subst IsOfStop is (of_stop why)), λ none. absurd (none (inr run)));
         already = λ is. absurd (never (stop_already why is));
         already_always = λ new. absurd (no_new new.0 new.1 new.2);
-        unformatted = λ is. (run, unformatted (stop_unformatted why is));
+        unformatted = λ is. (run, (unformatted (stop_unformatted why is)).0);
         unformatted_always = λ run tells count. ⊎_elim (λ is. inl (ap status_of_stop is)) (λ is. inr (ap status_of_stop is))
             (always tells count);
         formatted = λ other number is. absurd (subst IsOfStop is (of_stop why));
         scripts = λ is. absurd (subst IsOfStop is (of_stop why));
         not_opened = λ is. ⊎_elim (λ one. absurd (never (stop_already why one)))
-            (λ other. reads (no_fault why (AnchorCount false) (λ no. absurd (cc no)) other)) is;
-        damaged = λ finding run is. reads (no_fault why (Damaged finding) (λ no. absurd (cc no)) is);
+            (λ other. let r = unformatted (stop_unformatted why other) in (r.1, r.2)) is;
+        damaged = λ finding run is. unwritten (no_fault why (Damaged finding) (λ no. absurd (cc no)) is);
       }

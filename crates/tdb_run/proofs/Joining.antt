@@ -1,5 +1,5 @@
 -- What a run makes of its platform until its store is open, joined from its calls.
-use Rattle.std.proofs.Common.{◌≡◌, ◌≢◌, ◌⊎◌, inl, inr, ⊎_elim, ℕ, ◌≤◌, Bool, List, [], ◌++◌, Some, IsTrue, refl, sym, ◌∙◌, ap, subst}
+use Rattle.std.proofs.Common.{◌≡◌, ◌≢◌, ◌⊎◌, inl, inr, ⊎_elim, ℕ, zero, suc, ◌+◌, ◌≤◌, Bool, true, false, List, [], ◌∷◌, ◌++◌, Some, IsTrue, refl, sym, ◌∙◌, ap, subst, append-nil, append_assoc, arith}
 use Rattle.std.proofs.lemmas.Option.{same_Some}
 use Rattle.std.specs.FinMap.{get-empty}
 use Rattle.std.specs.Ordering.{nat_cmp}
@@ -13,37 +13,46 @@ use Rattle.tdb_mark.specs.CommitText.{commit_key_of, commit_of}
 use Rattle.tdb_mark.specs.declared.commit.Commit.{Commit}
 use Rattle.tdb_model.specs.Apply.{History}
 use Rattle.tdb_model.specs.State.{Partition, no_partitions}
+use Rattle.tdb_model.specs.declared.change.Change.{Change}
 use Rattle.tdb_model.specs.declared.error.CommitError.{CommitError}
 use Rattle.tdb_model.specs.declared.error.CommitError.TheVariants as refusals
 use Rattle.tdb_platform.specs.CrashStates.{CrashStates}
 use Rattle.tdb_platform.specs.Outside.{Anchor, Outside}
 use Rattle.tdb_overlay.specs.Found.{Store, in_trace}
-use Rattle.tdb_overlay.specs.Growth.{IsSettled}
 use Rattle.tdb_overlay.specs.Log.{IsLog, IsLogOf}
 use Rattle.tdb_overlay.specs.Reading.{OnlyReads}
 use Rattle.tdb_overlay.specs.Required.{IsOpeningPiece}
 use Rattle.tdb_overlay.specs.Sound.{IsSound}
 use Rattle.tdb_overlay.specs.StoreState.{StoreState, first_state, formatted_state}
-use Rattle.tdb_overlay.proofs.RanLaws.{ran_reads, sound_earlier}
-use Rattle.tdb_overlay.proofs.ReadingLaws.{reads_then}
-use Rattle.tdb_recover.specs.Damaged.{IsDamageOf}
+use Rattle.tdb_overlay.specs.WellFormedLog.{IsAccepted, IsWellFormedLog, IsWellFormedTrace}
+use Rattle.tdb_overlay.specs.declared.recovered.Recovered.{Recovered}
+use Rattle.tdb_overlay.proofs.LogLaws.{allows}
+use Rattle.tdb_overlay.proofs.RanLaws.{sound_earlier}
+use Rattle.tdb_recover.specs.Damaged.{IsDamageOf, damaged_piece}
+use Rattle.tdb_recover.specs.Opening.{HasLookedAhead, HasNotRecovered, HasTakenShown}
+use Rattle.tdb_recover.specs.Pending.{IsTaken, Takes}
 use Rattle.tdb_recover.specs.Premises.{Premises}
+use Rattle.tdb_recover.specs.Settled.{RanSettled}
 use Rattle.tdb_recover.specs.declared.error.OpenError.{OpenError}
 use Rattle.tdb_recover.specs.declared.error.OpenError.TheVariants as opens
-use Rattle.tdb_chunk.specs.Formatting.{store_under}
-use Rattle.tdb_chunk.specs.Settled.{RanSettled}
+use Rattle.tdb_chunk.specs.Attached.{HasAttached}
+use Rattle.tdb_chunk.specs.Formatting.{WritesFirstText, store_under}
 use Rattle.tdb_chunk.specs.Standing.{StandsAt}
 use Rattle.tdb_chunk.specs.StoreView.{StoreView, store_in}
 use Rattle.tdb_chunk.specs.declared.store_format.FormatError.{FormatError}
 use Rattle.tdb_chunk.specs.declared.store_format.FormatError.TheVariants as formats
 use Rattle.tdb_run.specs.Calls.{Calls, StopFaults}
 use Rattle.tdb_run.specs.Ends.{after_format, stop_of_commit, stop_of_format, stop_of_open}
-use Rattle.tdb_run.specs.Opened.{HasNotOpened, HasOpened, IsWhyNot, OverLogs, WhereItStands}
-use Rattle.tdb_run.specs.Opens.{HasNone}
+use Rattle.tdb_run.specs.Opened.{HasBegun, HasNotBegun, HasNotOpened, HasOpened, IsToldDamage, IsWhyNot, LookedAhead, OverLogs, WhereItStands}
+use Rattle.tdb_run.specs.Opens.{HasNone, MayOpen, Opens as MakesPartitions}
 use Rattle.tdb_run.specs.declared.opening.NotOpened.{NotOpened}
 use Rattle.tdb_run.specs.declared.opening.NotOpened.TheVariants.{AlreadyFormatted, Damaged, Memory, PlatformFault, Refused, Unformatted}
 use Rattle.tdb_run.specs.declared.status.Finding.TheVariants.{Form, Tampered}
-use Rattle.tdb_run.proofs.OpeningLaws.{only_settled, settled_behind, settled_then, whole_ran}
+use Rattle.tdb_run.proofs.OpeningLaws.{premises_before, settled_maybe, sound_at_end}
+
+none_or_some : (n : ℕ) → (n ≡ 0) ⊎ (n ≢ 0)
+none_or_some zero = inl refl
+none_or_some (suc n) = inr (λ is. omega (arith, is))
 
 one_and_none : {n : ℕ} → n ≡ 1 → n ≡ 0 → ⊥
 one_and_none one none = cc
@@ -114,12 +123,45 @@ no_count slot refusals.Fault = (λ is. cc is, λ is. cc is)
 no_text : (o : Outside) (store : Store) (history : History) (from : StoreState) → o.anchor.0 ≡ 0
     → IsLog o.trace.written store o.anchor history from → (history ≡ []) × (from ≡ first_state)
 no_text o store history from none is =
-    let ends = subst (λ (n : ℕ). commit_chain o.trace.written (commit_of (commit_key_of store.secret)) n o.anchor.1 ≡ Some is.chain) none is.ends in
+    let ends =
+    subst (λ (n : ℕ). commit_chain o.trace.written (commit_of (commit_key_of store.secret)) n o.anchor.1 ≡ Some is.chain)
+    none is.ends in
     subst (λ (chain : List Commit). IsLogOf (in_trace o.trace.written) store first_state chain history from)
     (sym (same_Some [] is.chain ends)) is.tells
 
-none_at_first : HasNone no_partitions
+both_nothing : (xs ys : History) → xs ++ ys ≡ [] → (xs ≡ []) × (ys ≡ [])
+both_nothing [] ys is = (refl, is)
+both_nothing (x ∷ xs) ys is = absurd (cc is)
+
+pub none_at_first : HasNone no_partitions
 none_at_first = (get-empty {X = Partition} nat_cmp 1, get-empty {X = Partition} nat_cmp 2)
+
+-- A commit that is taken counts one more.
+taken_counts : (written : List WrittenPiece) (store : Store) (anchor : Anchor) (history taken : History) (from to : StoreState)
+    → IsTaken written store anchor history from taken to → to.count ≡ from.count + 1
+taken_counts written store anchor history taken from to is =
+    ap (λ (s : StoreState). s.count) (allows store from is.changes to is.allowed).after_is
+
+-- Where reading ahead of a log came to a commit, that is the one that was taken, and else none was: the counts say so.
+took_by_count : (old mid : Outside) (store : Store) (history taken : History) (from to : StoreState) (log : Recovered)
+    → Takes old.trace.written store old.anchor history from taken to → (looked : HasLookedAhead old mid store.secret log)
+    → looked.log.head.count ≡ from.count → log.head.count ≡ to.count
+    → ((looked.took ≡ true) × ((one : ℕ × List Change) × (taken ≡ one ∷ []))) ⊎ ((looked.took ≡ false) × (taken ≡ []))
+took_by_count old mid store history taken from to log takes looked before now = by looked.came takes where
+  by : ((looked.took ≡ false) × (log ≡ looked.log)) ⊎ ((looked.took ≡ true) × HasTakenShown store.secret looked.log looked.ahead log)
+      → Takes old.trace.written store old.anchor history from taken to
+      → ((looked.took ≡ true) × ((one : ℕ × List Change) × (taken ≡ one ∷ []))) ⊎ ((looked.took ≡ false) × (taken ≡ []))
+  by (inl stays) (inr none) = inr (stays.0, none.0)
+  by (inr goes) (inl is) = inl (goes.0, ((is.commit.count, is.changes), is.one))
+  by (inl stays) (inl is) =
+      absurd (omega (
+        arith,
+        ap (λ (r : Recovered). r.head.count) stays.1,
+        before,
+        now,
+        taken_counts old.trace.written store old.anchor history taken from to is,
+      ))
+  by (inr goes) (inr none) = absurd (omega (arith, goes.1.count, before, now, ap (λ (s : StoreState). s.count) none.1))
 
 module _ {D : Type 0} (outside : D → Outside) (crash_states : D → CrashStates)
     (counts : (p : D) (t u : ℕ) (i : List ℕ) (a : Anchor) → t ≤ u → u ≤ (outside p).clock → crash_states p u i a → crash_states p t i a)
@@ -130,115 +172,166 @@ module _ {D : Type 0} (outside : D → Outside) (crash_states : D → CrashState
   abbrev NotOpens : Store → D → D → StoreState → Type 0
   NotOpens store old new from = HasNotOpened outside crash_states store old new from
 
-  sound_end : (old new : D) (secret : List ℕ) (store : Store) (history : History) (from : StoreState)
-      → (outside new).tells ≡ (outside old).tells → Premises (outside old) (outside new) secret store history from
-      → IsSound store.secret (outside new)
-  sound_end old new secret store history from tells given = record {
-    tells = subst (λ (b : Bool). IsTrue b) (sym tells) given.tells;
-    unforged = given.unforged;
-  }
+  abbrev Begins : Store → D → History → StoreState → StoreView D → Type 0
+  Begins store old history from s = HasBegun outside crash_states store old history from s
+
+  abbrev NotBegins : Store → D → D → History → StoreState → NotOpened → Type 0
+  NotBegins store old new history from why = HasNotBegun outside crash_states store old new history from why
 
   -- The store was attached, and then its partitions were looked for.
   module _ (platform : D) (s : StoreView D) (secret : List ℕ) (secret_is : s.secret ≡ secret)
-      (reads : OnlyReads outside crash_states platform s.platform)
-      (stands : (store : Store) (history : History) (last : StoreState)
-      → Premises (outside platform) (outside s.platform) secret store history last → (store_in s ≡ store) × StandsAt outside s history last) where
+      (first : Calls outside crash_states secret platform s.platform)
+      (attached : (store : Store) (history : History) (from : StoreState)
+      → Premises (outside platform) (outside s.platform) secret store history from
+      → HasAttached outside crash_states platform store history from s) where
     module _ (end : D) (calls : Calls outside crash_states s.secret s.platform end) (store : Store) (history : History) (from : StoreState)
         (given : Premises (outside platform) (outside end) secret store history from) where
       at_end : IsSound s.secret (outside end)
       at_end = subst (λ (k : List ℕ). IsSound k (outside end)) (given.keys ∙ sym secret_is)
-          (sound_end platform end secret store history from (calls.tells ∙ reads.tells) given)
+          (sound_at_end outside crash_states counts numbered secret store history from platform end (calls.tells ∙ first.tells) given)
 
-      attached : (store_in s ≡ store) × StandsAt outside s history from
-      attached = stands store history from (record {
-        tells = given.tells;
-        keys = given.keys;
-        unforged = (sound_earlier outside crash_states counts numbered store s.platform end calls.tells calls.grows
-            (sound_end platform end secret store history from (calls.tells ∙ reads.tells) given)).unforged;
-        log = given.log;
-      })
+      when_attached : Premises (outside platform) (outside s.platform) secret store history from
+      when_attached = premises_before outside crash_states counts numbered secret store history from platform s.platform end first
+          (subst (λ (k : List ℕ). Calls outside crash_states k s.platform end) secret_is calls) given
 
-    pub opened_attached : (end : StoreView D) → Calls outside crash_states s.secret s.platform end.platform
+      was_attached : HasAttached outside crash_states platform store history from s
+      was_attached = attached store history from when_attached
+
+      -- It was read ahead of the log that was opened.
+      looked_ahead : (IsTrue (outside platform).tells → HasLookedAhead (outside platform) (outside s.platform) secret s.log)
+          → LookedAhead (outside platform) (outside end) store was_attached.taken
+      looked_ahead ahead =
+          let at = was_attached in
+          let looked : HasLookedAhead (outside platform) (outside s.platform) store.secret s.log =
+          subst (λ (k : List ℕ). HasLookedAhead (outside platform) (outside s.platform) k s.log) (sym given.keys) (ahead given.tells) in
+          let before : Premises (outside platform) (outside s.platform) store.secret store history from =
+          subst (λ (k : List ℕ). Premises (outside platform) (outside s.platform) k store history from) (sym given.keys) when_attached in
+          record {
+            opened = outside s.platform;
+            log = s.log;
+            looked = looked;
+            took = took_by_count (outside platform) (outside s.platform) store history at.taken from at.to s.log at.takes looked
+                (looked.knows store history from before).count at.stands.knows.count;
+            grows = calls.grows (subst (λ (b : Bool). IsTrue b) (sym first.tells) given.tells);
+            unforged = before.unforged;
+          }
+
+    pub opened_attached : (IsTrue (outside platform).tells → HasLookedAhead (outside platform) (outside s.platform) secret s.log)
+        → (end : StoreView D) → Calls outside crash_states s.secret s.platform end.platform
         → WhereItStands outside s end.platform (λ history from. Opens (store_in s) s.platform history from end)
-        → OverLogs (outside platform) (outside end.platform) secret (λ store history from. Opens store platform history from end)
-    opened_attached end calls opened store history from given =
-        let at = attached end.platform calls store history from given in
-        let o = opened (at_end end.platform calls store history from given) history from at.1 in
-        subst (λ (t : Store). Opens t platform history from end) at.0 (record {
-          opening = o.opening;
+        → OverLogs (outside platform) (outside end.platform) secret (λ store history from. Begins store platform history from end)
+    opened_attached ahead end calls opened store history from given =
+        let at = was_attached end.platform calls store history from given in
+        let there = opened (at_end end.platform calls store history from given) (history ++ at.taken) at.to at.stands in
+        let o : Opens store s.platform (history ++ at.taken) at.to end =
+        subst (λ (t : Store). Opens t s.platform (history ++ at.taken) at.to end) at.same there in
+        record {
+          opening = at.taken ++ o.opening;
           state = o.state;
-          opens = o.opens;
+          opens = record {
+            taken = at.taken;
+            mid = at.to;
+            takes = at.takes;
+            made = o.opening;
+            opens = o.opens;
+            parts = refl;
+            ahead = inr (looked_ahead end.platform calls store history from given ahead);
+          };
           same = o.same;
-          ran = settled_behind outside crash_states counts numbered (store_in s) platform s.platform end.platform o.opening [] reads o.ran;
+          ran = settled_maybe outside crash_states counts numbered store platform s.platform end.platform at.taken o.opening [] at.ran
+              (inl o.ran);
           last = o.last;
-          stands = o.stands;
+          stands = subst (λ (h : History). StandsAt outside end h o.last) (append_assoc history at.taken o.opening) o.stands;
           chunks = o.chunks;
-        })
+        }
 
     pub not_opened_attached : (end : D) (why : NotOpened) → Calls outside crash_states s.secret s.platform end
         → WhereItStands outside s end (λ history from. NotOpens (store_in s) s.platform end from)
         → WhereItStands outside s end (λ history from. (earlier : Outside) → IsWhyNot (store_in s) earlier (outside end) from why)
-        → OverLogs (outside platform) (outside end) secret
-        (λ store history from. NotOpens store platform end from × IsWhyNot store (outside platform) (outside end) from why)
+        → OverLogs (outside platform) (outside end) secret (λ store history from. NotBegins store platform end history from why)
     not_opened_attached end why calls opened is_why store history from given =
-        let at = attached end calls store history from given in
+        let at = was_attached end calls store history from given in
         let sound = at_end end calls store history from given in
-        let o = opened sound history from at.1 in
-        subst (λ (t : Store). NotOpens t platform end from × IsWhyNot t (outside platform) (outside end) from why) at.0 (
-          record {
-            maybe = o.maybe;
+        let o : NotOpens store s.platform end at.to =
+        subst (λ (t : Store). NotOpens t s.platform end at.to) at.same (opened sound (history ++ at.taken) at.to at.stands) in
+        record {
+          opening = at.taken;
+          maybe = o.maybe;
+          stops = record {
+            taken = at.taken;
+            mid = at.to;
+            takes = at.takes;
+            made = o.maybe;
             may_open = o.may_open;
-            ran = ⊎_elim
-                (λ r. inl (settled_behind outside crash_states counts numbered (store_in s) platform s.platform end [] o.maybe reads r))
-                (λ r. inr (reads_then outside crash_states counts platform s.platform end reads r.0, r.1)) o.ran;
-          },
-          is_why sound history from at.1 (outside platform),
-        )
+            parts = refl;
+            is_why = subst (λ (t : Store). IsWhyNot t (outside platform) (outside end) at.to why) at.same
+                (is_why sound (history ++ at.taken) at.to at.stands (outside platform));
+          };
+          ran = inl (subst (λ (h : History). RanSettled outside crash_states store platform h o.maybe end) (append-nil at.taken)
+              (settled_maybe outside crash_states counts numbered store platform s.platform end at.taken [] o.maybe at.ran
+              (⊎_elim (λ r. inl r) (λ r. inr (r.0, refl, r.1)) o.ran)));
+        }
 
   -- It wasn't attached.
-  module _ (platform new : D) (reads : OnlyReads outside crash_states platform new) (store : Store) (from : StoreState) where
-    pub not_attached : (e : OpenError) → (e ≢ opens.Fault → IsSettled outside crash_states new) → NotOpens store platform new from
-    not_attached e settled = record { maybe = []; may_open = inl refl; ran = by e settled } where
-      by : (e : OpenError) → (e ≢ opens.Fault → IsSettled outside crash_states new)
-          → RanSettled outside crash_states store platform [] [] new
-          ⊎ (OnlyReads outside crash_states platform new × ◌≡◌ {A = History} [] [])
-      by opens.Unformatted settled = inl (only_settled outside crash_states counts numbered store platform new reads (settled (λ is. cc is)))
-      by (opens.Tampered damage) settled =
-          inl (only_settled outside crash_states counts numbered store platform new reads (settled (λ is. cc is)))
-      by (opens.Form place) settled =
-          inl (only_settled outside crash_states counts numbered store platform new reads (settled (λ is. cc is)))
-      by opens.Fault settled = inr (reads, refl)
-      by opens.Memory settled = inl (only_settled outside crash_states counts numbered store platform new reads (settled (λ is. cc is)))
+  module _ (platform new : D) (store : Store) (history : History) (from : StoreState) (tells : IsTrue (outside platform).tells)
+      (h : HasNotRecovered outside crash_states platform new store history from) (e : OpenError)
+      (reads : e ≢ opens.Fault → OnlyReads outside crash_states platform new)
+      (tampered : (damage : Damage) → e ≡ opens.Tampered damage → IsDamageOf (outside platform) (outside new)
+      (IsOpeningPiece (outside platform).trace.written store (outside platform).anchor) damage)
+      (form : (place : Place) → e ≡ opens.Form place → ⊥) where
+    damaged_now : OnlyReads outside crash_states platform new → (damage : Damage) → IsDamageOf (outside platform) (outside new)
+        (IsOpeningPiece (outside platform).trace.written store (outside platform).anchor) damage
+        → IsToldDamage store (outside platform) (outside new) damage
+    damaged_now only damage is = record {
+      size = is.size;
+      is_needed =
+          subst (λ (a : Anchor). IsOpeningPiece (outside new).trace.written store a (damaged_piece damage is.size))
+          (sym (only.anchor tells))
+          (subst (λ (ws : List WrittenPiece). IsOpeningPiece ws store (outside platform).anchor (damaged_piece damage is.size))
+          (sym (only.written tells)) is.is_needed);
+      read = is.read;
+      shown = is.shown;
+    }
 
-    damaged_now : IsTrue (outside platform).tells → (damage : Damage)
-        → IsDamageOf (outside platform) (outside new) (IsOpeningPiece (outside platform).trace.written store (outside platform).anchor) damage
-        → IsDamageOf (outside platform) (outside new) (IsOpeningPiece (outside new).trace.written store (outside new).anchor) damage
-    damaged_now tells damage is =
-        subst (λ (a : Anchor). IsDamageOf (outside platform) (outside new) (IsOpeningPiece (outside new).trace.written store a) damage)
-        (sym (reads.anchor tells))
-        (subst (λ (ws : List WrittenPiece). IsDamageOf (outside platform) (outside new) (IsOpeningPiece ws store (outside platform).anchor) damage)
-        (sym (reads.written tells)) is)
+    why_not_attached : (error : OpenError) → e ≡ error → IsWhyNot store (outside platform) (outside new) h.to (stop_of_open error)
+    why_not_attached opens.Unformatted is = tt
+    why_not_attached (opens.Tampered damage) is = damaged_now (reads (λ fault. cc (fault, is))) damage (tampered damage is)
+    why_not_attached (opens.Form place) is = absurd (form place is)
+    why_not_attached opens.Fault is = tt
+    why_not_attached opens.Memory is = tt
 
-    pub why_not_attached : IsTrue (outside platform).tells → (e : OpenError)
-        → ((damage : Damage) → e ≡ opens.Tampered damage
-        → IsDamageOf (outside platform) (outside new) (IsOpeningPiece (outside platform).trace.written store (outside platform).anchor) damage)
-        → ((place : Place) → e ≡ opens.Form place → ⊥)
-        → IsWhyNot store (outside platform) (outside new) from (stop_of_open e)
-    why_not_attached tells opens.Unformatted tampered form = tt
-    why_not_attached tells (opens.Tampered damage) tampered form = damaged_now tells damage (tampered damage refl)
-    why_not_attached tells (opens.Form place) tampered form = absurd (form place refl)
-    why_not_attached tells opens.Fault tampered form = tt
-    why_not_attached tells opens.Memory tampered form = tt
+    pub not_attached : NotBegins store platform new history from (stop_of_open e)
+    not_attached = record {
+      opening = [];
+      maybe = h.maybe;
+      stops = record {
+        taken = h.maybe;
+        mid = h.to;
+        takes = h.takes;
+        made = [];
+        may_open = inl refl;
+        parts = sym (append-nil h.maybe);
+        is_why = why_not_attached e refl;
+      };
+      ran = h.ran;
+    }
 
   -- A new store was formatted where the anchor counted nothing, and then opened.
   module _ (platform p : D) (secret : List ℕ) (suite : Suite) (segments : ℕ)
       (none : IsTrue (outside platform).tells → (outside platform).anchor.0 ≡ 0)
       (formatted : IsSound secret (outside p) → IsLog (outside p).trace.written (store_under secret suite) (outside p).anchor []
       (formatted_state (store_under secret suite) segments))
+      (texts : WritesFirstText secret (outside platform) (outside p)) (one : IsTrue (outside platform).tells → (outside p).anchor.0 ≡ 1)
       (ran : RanSettled outside crash_states (store_under secret suite) platform [] [] p) where
+    abbrev pub new_store : Store
+    new_store = store_under secret suite
+
+    abbrev pub new_state : StoreState
+    new_state = formatted_state (store_under secret suite) segments
+
     module _ (end : D) (calls : Calls outside crash_states secret p end) (store : Store) (history : History) (from : StoreState)
         (given : Premises (outside platform) (outside end) secret store history from) (suite_is : store.suite ≡ suite) where
-      it_is : store_under secret suite ≡ store
+      pub it_is : new_store ≡ store
       it_is = λ i. record { secret = sym given.keys i; suite = sym suite_is i }
 
       nothing : (history ≡ []) × (from ≡ first_state)
@@ -249,43 +342,88 @@ module _ {D : Type 0} (outside : D → Outside) (crash_states : D → CrashState
 
       at_last : IsSound secret (outside end)
       at_last = subst (λ (k : List ℕ). IsSound k (outside end)) given.keys
-          (sound_end platform end secret store history from (calls.tells ∙ told) given)
+          (sound_at_end outside crash_states counts numbered secret store history from platform end (calls.tells ∙ told) given)
 
-      at_first : IsSound secret (outside p)
-      at_first = sound_earlier outside crash_states counts numbered (store_under secret suite) p end calls.tells calls.grows at_last
+      pub at_first : IsSound secret (outside p)
+      at_first = sound_earlier outside crash_states counts numbered new_store p end calls.tells calls.grows at_last
 
-      pub given_new : Premises (outside p) (outside end) secret (store_under secret suite) []
-          (formatted_state (store_under secret suite) segments)
-      given_new = record { tells = at_first.tells; keys = refl; unforged = at_last.unforged; log = formatted at_first }
+      -- What was written before is well formed for an anchor that counts nothing,
+      unanchored : (a : Anchor) → a ≡ (outside ran.mid).anchor → IsWellFormedLog (outside ran.mid).trace.written secret a
+      unanchored a is = record {
+        trace = subst (λ (k : List ℕ). IsWellFormedTrace (outside ran.mid).trace.written k) given.keys
+            (subst (λ (ws : List WrittenPiece). IsWellFormedTrace ws store.secret) (sym (ran.reads.written given.tells)) given.formed);
+        anchored = inl (ap (λ (x : Anchor). x.0) (is ∙ ran.reads.anchor given.tells) ∙ none given.tells);
+      }
+
+      -- so it is with the first text.
+      formed : IsWellFormedTrace (outside p).trace.written secret
+      formed = ran.rest.formed at_first (record {
+        anchor = unanchored (outside ran.mid).anchor refl;
+        left = λ i a left. unanchored a
+            (ran.settled (subst (λ (b : Bool). IsTrue b) (sym ran.reads.tells) given.tells) i a left);
+      })
+
+      pub given_new : Premises (outside p) (outside end) secret new_store [] new_state
+      given_new = record {
+        tells = at_first.tells;
+        keys = refl;
+        unforged = at_last.unforged;
+        formed = formed;
+        log = formatted at_first;
+        first = λ counts_none. absurd (one_and_none (one given.tells) counts_none);
+      }
+
+      -- No commit was begun behind the first text, so none is taken.
+      none_taken : (taken : History) (mid : StoreState)
+          → Takes (outside p).trace.written new_store (outside p).anchor [] new_state taken mid → (taken ≡ []) × (mid ≡ new_state)
+      none_taken taken mid (inr nowhere) = nowhere
+      none_taken taken mid (inl is) =
+          let second : is.commit.count ≡ 2 = is.pending.count ∙ ap (λ (n : ℕ). n + 1) (one given.tells) in
+          absurd (⊎_elim
+          (λ before. omega (
+            arith,
+            second,
+            given.first (none given.tells) is.text is.commit before
+                (subst (λ (k : List ℕ). IsAccepted k is.text is.commit) (sym given.keys) is.pending.accepted),
+          ))
+          (λ first. omega (arith, second, first))
+          (texts given.tells is.text is.commit is.pending.was_written is.pending.accepted))
 
     pub opened_new : (end : StoreView D) → Calls outside crash_states secret p end.platform
-        → OverLogs (outside p) (outside end.platform) secret (λ store history from. Opens store p history from end)
+        → OverLogs (outside p) (outside end.platform) secret (λ store history from. Begins store p history from end)
         → OverLogs (outside platform) (outside end.platform) secret
-        (λ store history from. store.suite ≡ suite → Opens store platform history from end)
+        (λ store history from. store.suite ≡ suite → Begins store platform history from end)
     opened_new end calls opened store history from given suite_is =
-        let o = opened (store_under secret suite) [] (formatted_state (store_under secret suite) segments)
-        (given_new end.platform calls store history from given suite_is) in
+        let o = opened new_store [] new_state (given_new end.platform calls store history from given suite_is) in
+        let same = none_taken end.platform calls store history from given suite_is o.opens.taken o.opens.mid o.opens.takes in
         let empty = nothing end.platform calls store history from given suite_is in
-        let first : Opens (store_under secret suite) platform [] first_state end = record {
+        let first : Begins new_store platform [] first_state end = record {
           opening = o.opening;
           state = o.state;
-          opens = o.opens;
+          opens = record {
+            taken = [];
+            mid = first_state;
+            takes = inr (refl, refl);
+            made = o.opens.made;
+            opens = subst (λ (x : StoreState). MakesPartitions suite x.chunks o.opens.made o.state) same.1 o.opens.opens;
+            parts = o.opens.parts ∙ ap (λ (h : History). h ++ o.opens.made) same.0;
+            ahead = inl (none given.tells);
+          };
           same = o.same;
-          ran = settled_then outside crash_states counts numbered (store_under secret suite) platform p end.platform o.opening [] ran
-              (whole_ran outside crash_states counts numbered (store_under secret suite) p end.platform o.opening [] o.ran);
+          ran = settled_maybe outside crash_states counts numbered new_store platform p end.platform [] o.opening [] ran (inl o.ran);
           last = o.last;
           stands = o.stands;
           chunks = o.chunks;
         } in
-        subst (λ (t : Store). Opens t platform history from end) (it_is end.platform calls store history from given suite_is)
-        (subst (λ (h : History). Opens (store_under secret suite) platform h from end) (sym empty.0)
-        (subst (λ (x : StoreState). Opens (store_under secret suite) platform [] x end) (sym empty.1) first))
+        subst (λ (t : Store). Begins t platform history from end) (it_is end.platform calls store history from given suite_is)
+        (subst (λ (h : History). Begins new_store platform h from end) (sym empty.0)
+        (subst (λ (x : StoreState). Begins new_store platform [] x end) (sym empty.1) first))
 
     -- Why it isn't open says the same from before it was formatted.
     module _ (unread : (outside p).trace.read ≡ (outside platform).trace.read) (end : D) where
       why_before : (why : NotOpened)
-          → IsWhyNot (store_under secret suite) (outside p) (outside end) (formatted_state (store_under secret suite) segments) why
-          → IsWhyNot (store_under secret suite) (outside platform) (outside end) first_state why
+          → IsWhyNot new_store (outside p) (outside end) new_state why
+          → IsWhyNot new_store (outside platform) (outside end) first_state why
       why_before (Damaged (Tampered damage)) is = record {
         size = is.size;
         is_needed = is.is_needed;
@@ -302,68 +440,78 @@ module _ {D : Type 0} (outside : D → Outside) (crash_states : D → CrashState
       why_before PlatformFault is = tt
       why_before Memory is = tt
 
-      ran_new : (maybe : History) → RanSettled outside crash_states (store_under secret suite) p [] maybe end
-          ⊎ (OnlyReads outside crash_states p end × (maybe ≡ []))
-          → RanSettled outside crash_states (store_under secret suite) platform [] maybe end
-      ran_new maybe (inl r) = settled_then outside crash_states counts numbered (store_under secret suite) platform p end [] maybe ran
-          (whole_ran outside crash_states counts numbered (store_under secret suite) p end [] maybe r)
-      ran_new maybe (inr r) = subst (λ (m : History). RanSettled outside crash_states (store_under secret suite) platform [] m end) (sym r.1)
-          (settled_then outside crash_states counts numbered (store_under secret suite) platform p end [] [] ran
-          (ran_reads outside crash_states counts numbered (store_under secret suite) p end r.0))
-
     -- The anchor counts the first text, so it isn't found to count nothing.
     why_after : (n : StoreState) (end : D) → (outside p).anchor.0 ≡ 1 → (why : NotOpened)
         → (why ≡ Unformatted → (outside p).anchor.0 ≡ 0)
-        → IsWhyNot (store_under secret suite) (outside platform) (outside end) n why
-        → IsWhyNot (store_under secret suite) (outside platform) (outside end) n (after_format why)
-    why_after n end one Unformatted zero is = absurd (one_and_none one (zero refl))
-    why_after n end one AlreadyFormatted zero is = is
-    why_after n end one (Damaged finding) zero is = is
-    why_after n end one (Refused refusal) zero is = is
-    why_after n end one PlatformFault zero is = is
-    why_after n end one Memory zero is = is
+        → IsWhyNot new_store (outside platform) (outside end) n why
+        → IsWhyNot new_store (outside platform) (outside end) n (after_format why)
+    why_after n end counts_one Unformatted counts_none is = absurd (one_and_none counts_one (counts_none refl))
+    why_after n end counts_one AlreadyFormatted counts_none is = is
+    why_after n end counts_one (Damaged finding) counts_none is = is
+    why_after n end counts_one (Refused refusal) counts_none is = is
+    why_after n end counts_one PlatformFault counts_none is = is
+    why_after n end counts_one Memory counts_none is = is
 
-    pub not_opened_new : (IsTrue (outside platform).tells → (outside p).trace.read ≡ (outside platform).trace.read)
-        → (IsTrue (outside platform).tells → (outside p).anchor.0 ≡ 1) → (end : D) (why : NotOpened)
-        → (why ≡ Unformatted → IsTrue (outside p).tells → (outside p).anchor.0 ≡ 0) → Calls outside crash_states secret p end
-        → OverLogs (outside p) (outside end) secret
-        (λ store history from. NotOpens store p end from × IsWhyNot store (outside p) (outside end) from why)
+    pub not_opened_new : (IsTrue (outside platform).tells → (outside p).trace.read ≡ (outside platform).trace.read) → (end : D)
+        (why : NotOpened) → (why ≡ Unformatted → IsTrue (outside p).tells → (outside p).anchor.0 ≡ 0)
+        → Calls outside crash_states secret p end
+        → OverLogs (outside p) (outside end) secret (λ store history from. NotBegins store p end history from why)
         → OverLogs (outside platform) (outside end) secret
-        (λ store history from. store.suite ≡ suite
-        → NotOpens store platform end from × IsWhyNot store (outside platform) (outside end) from (after_format why))
-    not_opened_new unread one end why zero calls opened store history from given suite_is =
-        let o = opened (store_under secret suite) [] (formatted_state (store_under secret suite) segments)
-        (given_new end calls store history from given suite_is) in
+        (λ store history from. store.suite ≡ suite → NotBegins store platform end history from (after_format why))
+    not_opened_new unread end why counts_none calls opened store history from given suite_is =
+        let o = opened new_store [] new_state (given_new end calls store history from given suite_is) in
+        let same = none_taken end calls store history from given suite_is o.stops.taken o.stops.mid o.stops.takes in
         let empty = nothing end calls store history from given suite_is in
-        let first : NotOpens (store_under secret suite) platform end first_state = record {
-          maybe = o.0.maybe;
-          may_open = o.0.may_open;
-          ran = inl (ran_new (unread given.tells) end o.0.maybe o.0.ran);
+        let there : IsWhyNot new_store (outside p) (outside end) new_state why =
+        subst (λ (x : StoreState). IsWhyNot new_store (outside p) (outside end) x why) same.1 o.stops.is_why in
+        let first : NotBegins new_store platform end [] first_state (after_format why) = record {
+          opening = o.opening;
+          maybe = o.maybe;
+          stops = record {
+            taken = [];
+            mid = first_state;
+            takes = inr (refl, refl);
+            made = o.stops.made;
+            may_open = subst (λ (x : StoreState). MayOpen suite x.chunks o.stops.made) same.1 o.stops.may_open;
+            parts = o.stops.parts ∙ ap (λ (h : History). h ++ o.stops.made) same.0;
+            is_why = why_after first_state end (one given.tells) why
+                (λ is. counts_none is (at_first end calls store history from given suite_is).tells)
+                (why_before (unread given.tells) end why there);
+          };
+          ran = inl (settled_maybe outside crash_states counts numbered new_store platform p end [] o.opening o.maybe ran
+              (⊎_elim (λ r. inl r) (λ r. let both = both_nothing o.opening o.maybe r.1 in inr (r.0, both.0, both.1)) o.ran));
         } in
-        let is_why = why_after first_state end (one given.tells) why
-        (λ is. zero is (at_first end calls store history from given suite_is).tells) (why_before (unread given.tells) end why o.1) in
-        subst (λ (t : Store). NotOpens t platform end from × IsWhyNot t (outside platform) (outside end) from (after_format why))
+        subst (λ (t : Store). NotBegins t platform end history from (after_format why))
         (it_is end calls store history from given suite_is)
-        (subst (λ (x : StoreState). NotOpens (store_under secret suite) platform end x
-        × IsWhyNot (store_under secret suite) (outside platform) (outside end) x (after_format why)) (sym empty.1) (first, is_why))
+        (subst (λ (h : History). NotBegins new_store platform end h from (after_format why)) (sym empty.0)
+        (subst (λ (x : StoreState). NotBegins new_store platform end [] x (after_format why)) (sym empty.1) first))
 
-  -- It wasn't formatted.
+  -- It wasn't formatted. A store that was there was only read.
   pub not_formatted : (platform end : D) (secret : List ℕ) (suite : Suite) (e : FormatError)
       → RanSettled outside crash_states (store_under secret suite) platform [] [] end ⊎ OnlyReads outside crash_states platform end
+      → (IsTrue (outside platform).tells → (outside platform).anchor.0 ≢ 0 → OnlyReads outside crash_states platform end)
       → OverLogs (outside platform) (outside end) secret
-      (λ store history from. store.suite ≡ suite
-      → NotOpens store platform end from × IsWhyNot store (outside platform) (outside end) from (stop_of_format e))
-  not_formatted platform end secret suite e ran store history from given suite_is = (
-    record {
-      maybe = [];
+      (λ store history from. ((outside platform).anchor.0 ≡ 0 → store.suite ≡ suite)
+      → NotBegins store platform end history from (stop_of_format e))
+  not_formatted platform end secret suite e ran there store history from given fits = record {
+    opening = [];
+    maybe = [];
+    stops = record {
+      taken = [];
+      mid = from;
+      takes = inr (refl, refl);
+      made = [];
       may_open = inl refl;
-      ran = ⊎_elim
-          (λ r. inl (subst (λ (t : Store). RanSettled outside crash_states t platform [] [] end)
-          (λ i. record { secret = sym given.keys i; suite = sym suite_is i }) r))
-          (λ reads. inr (reads, refl)) ran;
-    },
-    why e,
-  ) where
+      parts = refl;
+      is_why = why e;
+    };
+    ran = ⊎_elim
+        (λ none. ⊎_elim
+        (λ r. inl (subst (λ (t : Store). RanSettled outside crash_states t platform [] [] end)
+        (λ i. record { secret = sym given.keys i; suite = sym (fits none) i }) r))
+        (λ reads. inr (reads, refl)) ran)
+        (λ some. inr (there given.tells some, refl)) (none_or_some (outside platform).anchor.0);
+  } where
     why : (e : FormatError) → IsWhyNot store (outside platform) (outside end) from (stop_of_format e)
     why formats.Segments = tt
     why (formats.AlreadyFormatted count) = tt

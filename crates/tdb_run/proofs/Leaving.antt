@@ -11,7 +11,7 @@ use Rattle.tdb_overlay.specs.Sound.{IsSound}
 use Rattle.tdb_overlay.specs.StoreState.{StoreState}
 use Rattle.tdb_overlay.proofs.RanLaws.{intact_since, kept_after, kept_since, ran_reads, ran_then, reliable_after, sound_before}
 use Rattle.tdb_run.specs.Ran.{HasAllOf, Leaves}
-use Rattle.tdb_chunk.specs.Settled.{RanSettled}
+use Rattle.tdb_recover.specs.Settled.{RanSettled}
 
 module _ {D : Type 0} (outside : D → Outside) (crash_states : D → CrashStates)
     (counts : (p : D) (t u : ℕ) (i : List ℕ) (a : Anchor) → t ≤ u → u ≤ (outside p).clock → crash_states p u i a → crash_states p t i a)

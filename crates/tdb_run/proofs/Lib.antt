@@ -1,6 +1,7 @@
 pub mod Carrying
 pub mod EndingBy
 pub mod Endings
+pub mod Hurting
 pub mod Joining
 pub mod Leaving
 pub mod MakingPartitions
@@ -8,5 +9,9 @@ pub mod OpeningLaws
 pub mod Partitions
 pub mod Refusing
 pub mod Scripts
+pub mod Sparing
+pub mod TellingNone
+pub mod Unhurt
+pub mod Unwriting
 pub mod Whole
 pub mod Words

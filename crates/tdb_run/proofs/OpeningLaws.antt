@@ -1,5 +1,5 @@
 -- How a run comes to the store that it opens, by what its calls say.
-use Rattle.std.proofs.Common.{◌≡◌, inl, inr, ℕ, ◌≤◌, Bool, false, List, [], ◌∷◌, Option, Some, None, Ok, Err, Result, IsTrue, refl, sym, ◌∙◌, ap, subst, arith}
+use Rattle.std.proofs.Common.{◌≡◌, ◌⊎◌, inl, inr, ℕ, ◌≤◌, Bool, false, List, [], ◌∷◌, ◌++◌, Option, Some, None, Ok, Err, Result, IsTrue, refl, sym, ◌∙◌, ap, subst, arith}
 use Rattle.std.specs.Prelude.{IfErr, IfOk}
 use Rattle.std.specs.Option.{option_map}
 use Rattle.tdb_base.specs.declared.names.PartId.{PartId}
@@ -21,10 +21,11 @@ use Rattle.tdb_overlay.specs.Reading.{OnlyReads}
 use Rattle.tdb_overlay.specs.Sound.{IsSound}
 use Rattle.tdb_overlay.specs.StoreState.{StoreState}
 use Rattle.tdb_overlay.proofs.OneLog.{log_is_one}
-use Rattle.tdb_overlay.proofs.RanLaws.{ran_itself, ran_reads, ran_then}
-use Rattle.tdb_overlay.proofs.ReadingLaws.{reads_nothing, reads_then}
+use Rattle.tdb_overlay.proofs.RanLaws.{ran_itself, ran_reads, ran_then, sound_earlier}
+use Rattle.tdb_overlay.proofs.ReadingLaws.{reads_nothing}
 use Rattle.tdb_overlay.proofs.SealedPuts.{only_sealed_along, only_sealed_none}
-use Rattle.tdb_chunk.specs.Settled.{RanSettled}
+use Rattle.tdb_recover.specs.Premises.{Premises}
+use Rattle.tdb_recover.specs.Settled.{RanSettled}
 use Rattle.tdb_chunk.specs.Standing.{IsReady, StandsAt, StoreRan}
 use Rattle.tdb_chunk.specs.StoreMeans.{store_means}
 use Rattle.tdb_chunk.specs.StoreView.{StoreView, head_in, store_in, written_in}
@@ -97,9 +98,6 @@ module _ {D : Type 0} (outside : D → Outside) (crash_states : D → CrashState
     moments = any_time old new ran.moments;
   }
 
-  pub calls_reads : (store : Store) (old new : D) → OnlyReads outside crash_states old new → CallsOf store.secret old new
-  calls_reads store old new reads = calls_on store old new [] [] (ran_reads outside crash_states counts numbered store old new reads)
-
   pub calls_then : (secret : List ℕ) (a b c : D) → CallsOf secret a b → CallsOf secret b c → CallsOf secret a c
   calls_then secret a b c first then = record {
     tells = then.tells ∙ first.tells;
@@ -122,29 +120,56 @@ module _ {D : Type 0} (outside : D → Outside) (crash_states : D → CrashState
     moments = runs.moments;
   }
 
-  -- A part that makes commits, behind calls that only read, and behind another.
-  pub settled_behind : (store : Store) (a b c : D) (surely maybe : History) → OnlyReads outside crash_states a b
-      → RanSettled outside crash_states store b surely maybe c → RanSettled outside crash_states store a surely maybe c
-  settled_behind store a b c surely maybe reads then = record {
-    mid = then.mid;
-    reads = reads_then outside crash_states counts a b then.mid reads then.reads;
-    settled = then.settled;
-    rest = then.rest;
+  -- what holds under the premises at the end holds under those that stood earlier
+  pub premises_before : (secret : List ℕ) (store : Store) (history : History) (from : StoreState) (a b c : D) → CallsOf secret a b
+      → CallsOf secret b c → Premises (outside a) (outside c) secret store history from
+      → Premises (outside a) (outside b) secret store history from
+  premises_before secret store history from a b c first then p = record {
+    tells = p.tells;
+    keys = p.keys;
+    unforged = (sound_earlier outside crash_states counts numbered store b c then.tells then.grows
+        (record {
+          tells = subst (λ (t : Bool). IsTrue t) (sym (then.tells ∙ first.tells)) p.tells;
+          unforged = p.unforged;
+        })).unforged;
+    formed = p.formed;
+    log = p.log;
+    first = p.first;
   }
 
-  pub settled_then : (store : Store) (a b c : D) (surely maybe : History) → RanSettled outside crash_states store a [] [] b
-      → RanOn outside crash_states store b surely maybe c → RanSettled outside crash_states store a surely maybe c
-  settled_then store a b c surely maybe first then = record {
+  pub sound_at_end : (secret : List ℕ) (store : Store) (history : History) (from : StoreState) (a c : D)
+      → (outside c).tells ≡ (outside a).tells → Premises (outside a) (outside c) secret store history from
+      → IsSound store.secret (outside c)
+  sound_at_end secret store history from a c tells p = record {
+    tells = subst (λ (t : Bool). IsTrue t) (sym tells) p.tells;
+    unforged = p.unforged;
+  }
+
+  -- commits that were made, and others behind them
+  pub settled_then : (store : Store) (a b c : D) (made more maybe : History) → RanSettled outside crash_states store a made [] b
+      → RanOn outside crash_states store b more maybe c → RanSettled outside crash_states store a (made ++ more) maybe c
+  settled_then store a b c made more maybe first then = record {
     mid = first.mid;
     reads = first.reads;
     settled = first.settled;
-    rest = ran_then outside crash_states counts numbered store first.mid b c [] surely maybe first.rest then;
+    rest = ran_then outside crash_states counts numbered store first.mid b c made more maybe first.rest then;
   }
 
   pub whole_ran : (store : Store) (a b : D) (surely maybe : History) → RanSettled outside crash_states store a surely maybe b
       → RanOn outside crash_states store a surely maybe b
   whole_ran store a b surely maybe r = ran_then outside crash_states counts numbered store a r.mid b [] surely maybe
       (ran_reads outside crash_states counts numbered store a r.mid r.reads) r.rest
+
+  -- commits that were made, and others behind them that may have been
+  pub settled_maybe : (store : Store) (a b c : D) (made more maybe : History) → RanSettled outside crash_states store a made [] b
+      → RanSettled outside crash_states store b more maybe c ⊎ (OnlyReads outside crash_states b c × (more ≡ []) × (maybe ≡ []))
+      → RanSettled outside crash_states store a (made ++ more) maybe c
+  settled_maybe store a b c made more maybe first (inl r) =
+      settled_then store a b c made more maybe first (whole_ran store b c more maybe r)
+  settled_maybe store a b c made more maybe first (inr r) =
+      subst (λ (h : History). RanSettled outside crash_states store a (made ++ h) maybe c) (sym r.1)
+      (subst (λ (h : History). RanSettled outside crash_states store a (made ++ []) h c) (sym r.2)
+      (settled_then store a b c made [] [] first (ran_reads outside crash_states counts numbered store b c r.0)))
 
   -- nothing was committed
   pub only_settled : (store : Store) (a b : D) → OnlyReads outside crash_states a b → IsSettled outside crash_states b

@@ -1,5 +1,5 @@
 -- Each commit of a run leaves partitions 1 and 2 as a run makes them.
-use Rattle.std.proofs.Common.{◌≡◌, ◌⊎◌, inl, inr, ⊎_elim, ◌==◌, ℕ, Bool, true, false, List, [], ◌∷◌, ◌++◌, Option, Some, None, refl, sym, ◌∙◌, subst, append_assoc, if◌then◌else◌}
+use Rattle.std.proofs.Common.{◌≡◌, ◌⊎◌, inl, inr, ⊎_elim, ◌==◌, ℕ, Bool, true, false, List, [], ◌∷◌, ◌++◌, Option, Some, None, refl, sym, ◌∙◌, ap, subst, append-nil, append_assoc, if◌then◌else◌}
 use Rattle.std.specs.FinMap.{get, insert}
 use Rattle.std.specs.Option.{option_map}
 use Rattle.std.specs.Prelude.{nat_le}
@@ -26,10 +26,13 @@ use Rattle.tdb_serve.specs.Running.{NextRan}
 use Rattle.tdb_serve.specs.declared.script_end.ScriptEnd.{ScriptEnd}
 use Rattle.tdb_serve.specs.declared.script_end.ScriptEnd.TheVariants.{Bye, End, SourceFault, SinkFault, PlatformFault, Memory}
 use Rattle.tdb_stream.specs.SourceContent.{SourceContent}
-use Rattle.tdb_overlay.specs.Found.{Store, in_trace}
+use Rattle.tdb_overlay.specs.Found.{Store, in_trace, store_of_text}
 use Rattle.tdb_overlay.specs.Log.{IsLog}
 use Rattle.tdb_overlay.specs.StoreState.{StoreState}
+use Rattle.tdb_overlay.specs.WellFormedLog.{EachText}
 use Rattle.tdb_overlay.proofs.LogLaws.{log_state}
+use Rattle.tdb_overlay.proofs.OneLog.{log_is_one}
+use Rattle.tdb_recover.specs.Pending.{IsTaken, Takes}
 use Rattle.tdb_chunk.specs.StoreMeans.{store_means}
 use Rattle.tdb_run.specs.Opens.{HasBoth, HasUserPartitions, IsMade, MayOpen, Opens}
 use Rattle.tdb_run.specs.Ran.{KeepsPartitions, RunRan}
@@ -110,13 +113,64 @@ state_is : (written : List WrittenPiece) (store : Store) (a : Anchor) (history :
     → IsLog written store a history last → last.chunks ≡ state_of history
 state_is written store a history last is = log_state (in_trace written) store is.chain history last is.tells
 
--- commits of a run behind a log keep its partitions
+-- What a run commits behind a log: the one commit that was begun there, where it is taken, and then commits of its own.
+pub record CommitsOf (before : List WrittenPiece) (store : Store) (a : Anchor) (history : History) (from : StoreState)
+    (all : History) : Type 0 where
+  pub taken : History
+  pub mid : StoreState
+  pub takes : Takes before store a history from taken mid
+  pub more : History
+  pub of_run : AreOfRun more
+  pub parts : all ≡ taken ++ more
+
+-- commits of a run behind a history keep its partitions
+behind : (history front rest more : History) → AreOfRun more → front ++ rest ≡ more → HasUserPartitions (state_of history)
+    → HasUserPartitions (state_of (history ++ front))
+behind history front rest more are parts has = subst HasUserPartitions (sym (replay_both no_partitions history front))
+    (replay_keeps front (state_of history) (are_first front rest (subst AreOfRun (sym parts) are)) has)
+
+-- A commit that is taken leaves such a state, where each text that was written did.
+taken_keeps : (before : List WrittenPiece) (store : Store) (a : Anchor) (history taken : History) (from mid : StoreState)
+    → IsTaken before store a history from taken mid → EachText before store.secret (λ last. HasUserPartitions last.chunks)
+    → HasUserPartitions (state_of (history ++ taken))
+taken_keeps before store a history taken from mid is each =
+    let text = each is.text is.commit is.pending.was_written is.pending.accepted in
+    let one = log_is_one before (store_of_text store.secret is.commit) store refl _ text.history (history ++ taken) text.last mid
+    text.log is.log in
+    subst HasUserPartitions (ap (λ (s : StoreState). s.chunks) one.1 ∙ state_is before store _ (history ++ taken) mid is.log) text.holds
+
+-- A first part of commits is empty, or has the first of them.
+fronts : (one : ℕ × List Change) (more front rest : History) → front ++ rest ≡ one ∷ more
+    → (front ≡ []) ⊎ ((later : History) × (front ≡ one ∷ later) × (later ++ rest ≡ more))
+fronts one more [] rest parts = inl refl
+fronts one more (x ∷ front) rest parts =
+    let first : x ≡ one = cc parts in
+    let later : front ++ rest ≡ more = cc parts in
+    inr (front, ap (λ (y : ℕ × List Change). y ∷ front) first, later)
+
+-- Commits of a run behind a log keep its partitions, also behind the commit that is taken there.
 pub keeps_partitions : (before after : List WrittenPiece) (store : Store) (a : Anchor) (history all : History) (from : StoreState)
-    → IsLog before store a history from → AreOfRun all → KeepsPartitions from after store history all
-keeps_partitions before after store a history all from is are has b front rest to parts log =
-    subst HasUserPartitions (sym (state_is after store b (history ++ front) to log ∙ replay_both no_partitions history front))
-    (replay_keeps front (state_of history) (are_first front rest (subst AreOfRun (sym parts) are))
-    (subst HasUserPartitions (state_is before store a history from is) has))
+    → IsLog before store a history from → CommitsOf before store a history from all → KeepsPartitions from before after store history all
+keeps_partitions before after store a history all from is are has each b front rest to parts log =
+    subst HasUserPartitions (sym (state_is after store b (history ++ front) to log)) (by_taken are.takes) where
+      at_first : HasUserPartitions (state_of history)
+      at_first = subst HasUserPartitions (state_is before store a history from is) has
+
+      by_taken : Takes before store a history from are.taken are.mid → HasUserPartitions (state_of (history ++ front))
+      by_taken (inr none) = behind history front rest are.more are.of_run
+          (parts ∙ are.parts ∙ ap (λ (h : History). h ++ are.more) none.0) at_first
+      by_taken (inl taken) =
+          ⊎_elim
+          (λ nothing. subst (λ (h : History). HasUserPartitions (state_of (history ++ h))) (sym nothing)
+          (subst (λ (h : History). HasUserPartitions (state_of h)) (sym (append-nil history)) at_first))
+          (λ some. subst (λ (h : History). HasUserPartitions (state_of (history ++ h))) (sym some.1)
+          (subst (λ (h : History). HasUserPartitions (state_of h))
+          (append_assoc history ((taken.commit.count, taken.changes) ∷ []) some.0)
+          (behind (history ++ ((taken.commit.count, taken.changes) ∷ [])) some.0 rest are.more are.of_run some.2
+          (subst (λ (h : History). HasUserPartitions (state_of (history ++ h))) taken.one
+          (taken_keeps before store a history are.taken from are.mid taken each)))))
+          (fronts (taken.commit.count, taken.changes) are.more front rest
+          (parts ∙ are.parts ∙ ap (λ (h : History). h ++ are.more) taken.one))
 
 -- the commits of an answer
 abbrev AddsOfRun : Answer → Type 0
@@ -212,23 +266,38 @@ module _ {C : Type 0} (m : Meanings C) where
 
 -- all commits of a run
 pub run_of_run : {D : Type 0} → (outside : D → Outside) (crash_states : D → CrashStates) (store : Store) {came gone : SourceContent}
-    (c : Conversation came gone) (old new : D) (from : StoreState) (status : Status)
-    (r : RunRan outside crash_states store c old new from status) → AreOfRun (r.opening ++ ((r.added ++ r.own) ++ r.maybe))
-run_of_run outside crash_states store c old new from status r =
+    (c : Conversation came gone) (old new : D) (history : History) (from : StoreState) (status : Status)
+    (r : RunRan outside crash_states store c old new history from status)
+    → CommitsOf (outside old).trace.written store (outside old).anchor history from (r.opening ++ ((r.added ++ r.own) ++ r.maybe))
+run_of_run outside crash_states store c old new history from status r =
     ⊎_elim
-    (λ some. are_both r.opening ((r.added ++ r.own) ++ r.maybe) (opens_of_run store.suite from.chunks some.0 r.opening some.1)
-    (subst AreOfRun (sym (append_assoc r.added r.own r.maybe))
-    (⊎_elim
-    (λ begun. are_both r.added (r.own ++ r.maybe)
-    (session_of_run (store_means outside crash_states) begun.script.first (script_at some.0) c.lines c.replies r.added begun.script.mid
-    begun.script.final begun.script.session)
-    (next_of_run (store_means outside crash_states) c begun.script.mid begun.script.last begun.script.final r.own r.maybe
-    begun.script.end begun.script.next))
-    (λ made. are_both r.added (r.own ++ r.maybe) (none_of_run r.added made.1.no_more.0)
-    (are_both r.own r.maybe (none_of_run r.own made.1.no_more.1) (none_of_run r.maybe made.1.no_more.2)))
-    some.2)))
-    (λ none. are_both r.opening ((r.added ++ r.own) ++ r.maybe) (none_of_run r.opening none.no_more.0)
-    (are_both (r.added ++ r.own) r.maybe
-    (are_both r.added r.own (none_of_run r.added none.no_more.1) (none_of_run r.own none.no_more.2))
-    (may_open_of_run store.suite from.chunks r.maybe none.may_open)))
+    (λ some. record {
+      taken = some.1.taken;
+      mid = some.1.mid;
+      takes = some.1.takes;
+      more = some.1.made ++ ((r.added ++ r.own) ++ r.maybe);
+      of_run = are_both some.1.made ((r.added ++ r.own) ++ r.maybe)
+          (opens_of_run store.suite some.1.mid.chunks some.0 some.1.made some.1.opens)
+          (subst AreOfRun (sym (append_assoc r.added r.own r.maybe))
+          (⊎_elim
+          (λ begun. are_both r.added (r.own ++ r.maybe)
+          (session_of_run (store_means outside crash_states) begun.script.first (script_at some.0) c.lines c.replies r.added
+          begun.script.mid begun.script.final begun.script.session)
+          (next_of_run (store_means outside crash_states) c begun.script.mid begun.script.last begun.script.final r.own r.maybe
+          begun.script.end begun.script.next))
+          (λ made. are_both r.added (r.own ++ r.maybe) (none_of_run r.added made.1.no_more.0)
+          (are_both r.own r.maybe (none_of_run r.own made.1.no_more.1) (none_of_run r.maybe made.1.no_more.2)))
+          some.2));
+      parts = ap (λ (h : History). h ++ ((r.added ++ r.own) ++ r.maybe)) some.1.parts
+          ∙ append_assoc some.1.taken some.1.made ((r.added ++ r.own) ++ r.maybe);
+    })
+    (λ none. record {
+      taken = none.stops.taken;
+      mid = none.stops.mid;
+      takes = none.stops.takes;
+      more = none.stops.made;
+      of_run = may_open_of_run store.suite none.stops.mid.chunks none.stops.made none.stops.may_open;
+      parts = ap (λ (h : History). r.opening ++ (h ++ r.maybe))
+          (ap (λ (h : History). h ++ r.own) none.no_more.0 ∙ none.no_more.1) ∙ none.stops.parts;
+    })
     r.course

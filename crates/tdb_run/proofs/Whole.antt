@@ -1,10 +1,10 @@
 -- What the opening of a store and its script come to together.
-use Rattle.std.proofs.Common.{◌≡◌, inl, inr, ⊎_elim, ℕ, ◌≤◌, List, [], ◌++◌, IsTrue, Bool, refl, sym, ◌∙◌, ap, subst, append-nil, arith}
-use Rattle.tdb_base.specs.Trace.{IsNumbered}
+use Rattle.std.proofs.Common.{◌≡◌, inl, inr, ⊎_elim, ℕ, ◌≤◌, Bool, List, [], ◌++◌, IsTrue, refl, sym, ◌∙◌, ap, subst, append-nil}
+use Rattle.tdb_base.specs.Trace.{Extends, IsNumbered}
 use Rattle.tdb_base.proofs.Tracing.{extends_along}
 use Rattle.tdb_model.specs.Apply.{History}
 use Rattle.tdb_model.specs.State.{State}
-use Rattle.tdb_platform.specs.CrashStates.{CrashStates, LeavesOnly}
+use Rattle.tdb_platform.specs.CrashStates.{CrashStates}
 use Rattle.tdb_platform.specs.Outside.{Anchor, Outside}
 use Rattle.tdb_serve.specs.Replies.{Conversation}
 use Rattle.tdb_serve.proofs.Conversing.{no_conversation}
@@ -13,14 +13,12 @@ use Rattle.tdb_overlay.specs.Found.{Store}
 use Rattle.tdb_overlay.specs.Ran.{RanOn}
 use Rattle.tdb_overlay.specs.Sound.{IsSound}
 use Rattle.tdb_overlay.specs.StoreState.{StoreState}
-use Rattle.tdb_overlay.proofs.RanLaws.{ran_then, sound_earlier}
-use Rattle.tdb_overlay.proofs.SealedPuts.{only_sealed_along}
 use Rattle.tdb_recover.specs.Premises.{Premises}
-use Rattle.tdb_chunk.specs.Settled.{RanSettled}
+use Rattle.tdb_recover.specs.Settled.{RanSettled}
 use Rattle.tdb_chunk.specs.StoreView.{StoreView, store_in}
 use Rattle.tdb_run.specs.Calls.{Calls}
 use Rattle.tdb_run.specs.Ends.{status_of_stop}
-use Rattle.tdb_run.specs.Opened.{HasNotOpened, HasOpened, IsWhyNot}
+use Rattle.tdb_run.specs.Opened.{HasBegun, HasNotBegun, OpensBehind}
 use Rattle.tdb_run.specs.Ran.{HasOwnScript, RunRan, StopsOf}
 use Rattle.tdb_run.specs.Scripted.{RanScript}
 use Rattle.tdb_run.specs.declared.opening.NotOpened.{NotOpened}
@@ -28,95 +26,58 @@ use Rattle.tdb_run.specs.declared.status.Status.{Status}
 use Rattle.tdb_run.specs.declared.status.Status.TheVariants.{Done}
 use Rattle.tdb_run.specs.declared.status.Success.TheVariants.{Formatted}
 use Rattle.tdb_run.proofs.Leaving.{leaves}
+use Rattle.tdb_run.proofs.OpeningLaws.{premises_before, settled_then, sound_at_end}
 
 -- what a run made of one log, and what a stop leaves of that
 pub record Over {D : Type 0} (outside : D → Outside) (crash_states : D → CrashStates) (store : Store) {came gone : SourceContent}
     (c : Conversation came gone) (old new : D) (history : History) (from : StoreState) (status : Status) : Type 0 where
-  pub ran : RunRan outside crash_states store c old new from status
+  pub ran : RunRan outside crash_states store c old new history from status
   pub stops : StopsOf outside crash_states store c old new history from status ran
+
+-- What opened a store is the same as the trace becomes longer.
+opens_longer : (old mid new : Outside) (store : Store) (history : History) (from : StoreState) (opening : History) (state : State)
+    → Extends mid.trace new.trace → OpensBehind old mid store history from opening state
+    → OpensBehind old new store history from opening state
+opens_longer old mid new store history from opening state grows is = record {
+  taken = is.taken;
+  mid = is.mid;
+  takes = is.takes;
+  made = is.made;
+  opens = is.opens;
+  parts = is.parts;
+  ahead = ⊎_elim (λ none. inl none)
+      (λ looked. inr (record {
+        opened = looked.opened;
+        log = looked.log;
+        looked = looked.looked;
+        took = looked.took;
+        grows = extends_along looked.opened.trace mid.trace new.trace looked.grows grows;
+        unforged = looked.unforged;
+      })) is.ahead;
+}
 
 module _ {D : Type 0} (outside : D → Outside) (crash_states : D → CrashStates)
     (counts : (p : D) (t u : ℕ) (i : List ℕ) (a : Anchor) → t ≤ u → u ≤ (outside p).clock → crash_states p u i a → crash_states p t i a)
     (numbered : (p : D) → IsTrue (outside p).tells → IsNumbered (outside p).trace) where
-  unit_moments : (a b c : D) → LeavesOnly outside crash_states a b (λ i x. Unit {0})
-      → LeavesOnly outside crash_states b c (λ i x. Unit {0})
-      → LeavesOnly outside crash_states a c (λ i x. Unit {0})
-  unit_moments a b c first then = record {
-    later = omega (arith, first.later, then.later);
-    each = λ i x left. tt;
-    before = λ t i x within left. ⊎_elim
-        (λ earlier. ⊎_elim (λ at_start. inl at_start) (λ after. inr (then.keeps (outside a).clock i x first.later after))
-        (first.before t i x within earlier))
-        (λ since. inr (counts c (outside a).clock (outside b).clock i x first.later then.later since))
-        (then.before t i x (omega (arith, within, first.later)) left);
-    keeps = λ t i x within left. then.keeps t i x (omega (arith, within, first.later)) (first.keeps t i x within left);
-  }
-
-  -- calls, and then others
-  pub calls_along : (secret : List ℕ) (a b c : D) → Calls outside crash_states secret a b → Calls outside crash_states secret b c
-      → Calls outside crash_states secret a c
-  calls_along secret a b c first then = record {
-    tells = then.tells ∙ first.tells;
-    honest = then.honest ∙ first.honest;
-    grows = λ tells. extends_along (outside a).trace (outside b).trace (outside c).trace (first.grows tells)
-        (then.grows (subst (λ (t : Bool). IsTrue t) (sym first.tells) tells));
-    sealed = only_sealed_along secret (outside a) (outside b) (outside c) first.tells first.sealed then.sealed;
-    faults = omega (arith, first.faults, then.faults);
-    moments = unit_moments a b c first.moments then.moments;
-  }
-
-  -- what holds under the premises at the end holds under those that stood earlier
-  premises_before : (secret : List ℕ) (store : Store) (history : History) (from : StoreState) (a b c : D)
-      → Calls outside crash_states secret a b → Calls outside crash_states secret b c
-      → Premises (outside a) (outside c) secret store history from → Premises (outside a) (outside b) secret store history from
-  premises_before secret store history from a b c first then p = record {
-    tells = p.tells;
-    keys = p.keys;
-    unforged = (sound_earlier outside crash_states counts numbered store b c then.tells then.grows
-        (record {
-          tells = subst (λ (t : Bool). IsTrue t) (sym (then.tells ∙ first.tells)) p.tells;
-          unforged = p.unforged;
-        })).unforged;
-    log = p.log;
-  }
-
-  sound_at_end : (secret : List ℕ) (store : Store) (history : History) (from : StoreState) (a c : D)
-      → (outside c).tells ≡ (outside a).tells → Premises (outside a) (outside c) secret store history from
-      → IsSound store.secret (outside c)
-  sound_at_end secret store history from a c tells p = record {
-    tells = subst (λ (t : Bool). IsTrue t) (sym tells) p.tells;
-    unforged = p.unforged;
-  }
-
-  -- the rest of a run behind its opening
-  then_on : (store : Store) (old mid new : D) (opening more maybe : History) → RanSettled outside crash_states store old opening [] mid
-      → RanOn outside crash_states store mid more maybe new → RanSettled outside crash_states store old (opening ++ more) maybe new
-  then_on store old mid new opening more maybe first rest = record {
-    mid = first.mid;
-    reads = first.reads;
-    settled = first.settled;
-    rest = ran_then outside crash_states counts numbered store first.mid mid new opening more maybe first.rest rest;
-  }
-
   -- A store was opened, and its script answered.
   pub over_script : (secret : List ℕ) (store : Store) (history : History) (from : StoreState) (old new : D) (s : StoreView D)
       (came gone : SourceContent) (c : Conversation came gone) (status : Status)
       → Calls outside crash_states secret old s.platform → Calls outside crash_states secret s.platform new
       → Premises (outside old) (outside new) secret store history from
       → (Premises (outside old) (outside s.platform) secret store history from
-      → HasOpened outside crash_states store old history from s)
+      → HasBegun outside crash_states store old history from s)
       → RanScript outside crash_states c status s new
       → Over outside crash_states store c old new history from status
   over_script secret store history from old new s came gone c status first then p opened script =
       let sound : IsSound store.secret (outside new) =
-      sound_at_end secret store history from old new (then.tells ∙ first.tells) p in
-      let h = opened (premises_before secret store history from old s.platform new first then p) in
+      sound_at_end outside crash_states counts numbered secret store history from old new (then.tells ∙ first.tells) p in
+      let h = opened (premises_before outside crash_states counts numbered secret store history from old s.platform new first then p) in
       let part = script (history ++ h.opening) h.last h.stands
       (subst (λ (one : Store). IsSound one.secret (outside new)) (sym h.same) sound) in
       let rest : RanOn outside crash_states store s.platform (part.added ++ part.own) part.maybe new =
       subst (λ (one : Store). RanOn outside crash_states one s.platform (part.added ++ part.own) part.maybe new) h.same part.ran in
       let ran : RanSettled outside crash_states store old (h.opening ++ (part.added ++ part.own)) part.maybe new =
-      then_on store old s.platform new h.opening (part.added ++ part.own) part.maybe h.ran rest in
+      settled_then outside crash_states counts numbered store old s.platform new h.opening (part.added ++ part.own) part.maybe h.ran rest in
       record {
         ran = record {
           opening = h.opening;
@@ -126,7 +87,8 @@ module _ {D : Type 0} (outside : D → Outside) (crash_states : D → CrashState
           ran = inl ran;
           course = inl (
             h.state,
-            h.opens,
+            opens_longer (outside old) (outside s.platform) (outside new) store history from h.opening h.state
+                (then.grows (subst (λ (b : Bool). IsTrue b) (sym first.tells) p.tells)) h.opens,
             inl (subst (λ (state : State). HasOwnScript outside crash_states store c old new status state h.opening part.added part.own
                 part.maybe) h.chunks (record {
                   script = part.script;
@@ -144,10 +106,11 @@ module _ {D : Type 0} (outside : D → Outside) (crash_states : D → CrashState
   pub over_new_store : (secret : List ℕ) (store : Store) (history : History) (from : StoreState) (old : D) (s : StoreView D)
       (came : SourceContent) (segments : ℕ) → (outside s.platform).tells ≡ (outside old).tells
       → Premises (outside old) (outside s.platform) secret store history from
-      → HasOpened outside crash_states store old history from s
+      → HasBegun outside crash_states store old history from s
       → Over outside crash_states store (no_conversation came) old s.platform history from (Done (Formatted store.suite segments))
   over_new_store secret store history from old s came segments tells p h =
-      let sound : IsSound store.secret (outside s.platform) = sound_at_end secret store history from old s.platform tells p in
+      let sound : IsSound store.secret (outside s.platform) =
+      sound_at_end outside crash_states counts numbered secret store history from old s.platform tells p in
       let ran : RanSettled outside crash_states store old (h.opening ++ []) [] s.platform =
       subst (λ (all : History). RanSettled outside crash_states store old all [] s.platform) (sym (append-nil h.opening)) h.ran in
       record {
@@ -165,26 +128,22 @@ module _ {D : Type 0} (outside : D → Outside) (crash_states : D → CrashState
   -- No store was opened.
   pub over_no_store : (secret : List ℕ) (store : Store) (history : History) (from : StoreState) (old new : D) (came : SourceContent)
       (why : NotOpened) → (outside new).tells ≡ (outside old).tells → Premises (outside old) (outside new) secret store history from
-      → HasNotOpened outside crash_states store old new from → IsWhyNot store (outside old) (outside new) from why
+      → HasNotBegun outside crash_states store old new history from why
       → Over outside crash_states store (no_conversation came) old new history from (status_of_stop why)
-  over_no_store secret store history from old new came why tells p h is_why = record {
+  over_no_store secret store history from old new came why tells p h = record {
     ran = record {
-      opening = [];
+      opening = h.opening;
       added = [];
       own = [];
       maybe = h.maybe;
-      ran = ⊎_elim (λ ran. inl ran) (λ read. inr (read.0, read.1, (why, refl))) h.ran;
-      course = inr (record {
-        why = why;
-        ends_so = refl;
-        is_why = is_why;
-        untaken = refl;
-        no_more = (refl, refl, refl);
-        may_open = h.may_open;
-      });
+      ran = ⊎_elim (λ ran. inl (whole ran)) (λ read. inr (read.0, read.1, (why, refl))) h.ran;
+      course = inr (record { why = why; ends_so = refl; stops = h.stops; untaken = refl; no_more = (refl, refl) });
     };
     stops = ⊎_elim
-        (λ ran. inl (leaves outside crash_states counts numbered store old new history [] h.maybe from
-        (sound_at_end secret store history from old new tells p) p.log ran))
+        (λ ran. inl (leaves outside crash_states counts numbered store old new history (h.opening ++ []) h.maybe from
+        (sound_at_end outside crash_states counts numbered secret store history from old new tells p) p.log (whole ran)))
         (λ read. inr (read.0, read.1, (why, refl))) h.ran;
-  }
+  } where
+    whole : RanSettled outside crash_states store old h.opening h.maybe new
+        → RanSettled outside crash_states store old (h.opening ++ []) h.maybe new
+    whole ran = subst (λ (all : History). RanSettled outside crash_states store old all h.maybe new) (sym (append-nil h.opening)) ran

@@ -9,4 +9,6 @@ pub mod Opens
 pub mod Ran
 pub mod Run
 pub mod Scripted
+pub mod Spared
 pub mod StatusLine
+pub mod Undamaged

@@ -20,13 +20,13 @@ use Rattle.tdb_overlay.specs.Log.{IsLog}
 use Rattle.tdb_overlay.specs.Ran.{IsFront}
 use Rattle.tdb_overlay.specs.Reading.{OnlyReads}
 use Rattle.tdb_overlay.specs.StoreState.{StoreState}
-use Rattle.tdb_overlay.specs.WellFormedLog.{IsKeptLog, IsWellFormedLog}
-use Rattle.tdb_chunk.specs.Settled.{RanSettled}
+use Rattle.tdb_overlay.specs.WellFormedLog.{EachText, IsKeptLog, IsWellFormedLog}
+use Rattle.tdb_recover.specs.Settled.{RanSettled}
 use Rattle.tdb_chunk.specs.StoreMeans.{store_means}
 use Rattle.tdb_chunk.specs.StoreView.{StoreView, store_in}
 use Rattle.tdb_run.specs.Ends.{status_of_end, status_of_stop}
-use Rattle.tdb_run.specs.Opened.{IsWhyNot}
-use Rattle.tdb_run.specs.Opens.{HasUserPartitions, MayOpen, Opens}
+use Rattle.tdb_run.specs.Opened.{OpensBehind, StopsBehind}
+use Rattle.tdb_run.specs.Opens.{HasUserPartitions}
 use Rattle.tdb_run.specs.declared.opening.NotOpened.{NotOpened}
 use Rattle.tdb_run.specs.declared.status.Status.{Status}
 use Rattle.tdb_run.specs.declared.status.Status.TheVariants.{Done}
@@ -66,14 +66,13 @@ pub record HasNewStore {came gone : SourceContent} (c : Conversation came gone) 
   pub no_more : (added ≡ []) × (own ≡ []) × (maybe ≡ [])
 
 -- It didn't open its store.
-pub record HasNoStore {came gone : SourceContent} (store : Store) (c : Conversation came gone) (old new : Outside) (from : StoreState)
-    (status : Status) (opening added own maybe : History) : Type 0 where
+pub record HasNoStore {came gone : SourceContent} (store : Store) (c : Conversation came gone) (old new : Outside) (history : History)
+    (from : StoreState) (status : Status) (opening added own maybe : History) : Type 0 where
   pub why : NotOpened
   pub ends_so : status ≡ status_of_stop why
-  pub is_why : IsWhyNot store old new from why
+  pub stops : StopsBehind old new store history from why (opening ++ maybe)
   pub untaken : c.taken ≡ []
-  pub no_more : (opening ≡ []) × (added ≡ []) × (own ≡ [])
-  pub may_open : MayOpen store.suite from.chunks maybe
+  pub no_more : (added ≡ []) × (own ≡ [])
 
 -- it ended as one that didn't open its store
 abbrev pub IsNotOpened : Status → Type 0
@@ -82,17 +81,17 @@ IsNotOpened status = (why : NotOpened) × (status ≡ status_of_stop why)
 -- Behind the log that the anchor had at the start there was committed: what opens the store, the commits of the lines in their order,
 -- and at most one more.
 pub record RunRan {D : Type 0} (outside : D → Outside) (crash_states : D → CrashStates) (store : Store) {came gone : SourceContent}
-    (c : Conversation came gone) (old new : D) (from : StoreState) (status : Status) : Type 0 where
+    (c : Conversation came gone) (old new : D) (history : History) (from : StoreState) (status : Status) : Type 0 where
   pub opening : History
   pub added : History
   pub own : History
   pub maybe : History
   pub ran : RanSettled outside crash_states store old (opening ++ (added ++ own)) maybe new
       ⊎ (OnlyReads outside crash_states old new × (opening ++ ((added ++ own) ++ maybe) ≡ []) × IsNotOpened status)
-  pub course : ((state : State) × Opens store.suite from.chunks opening state
+  pub course : ((state : State) × OpensBehind (outside old) (outside new) store history from opening state
       × (HasOwnScript outside crash_states store c old new status state opening added own maybe
       ⊎ ((segments : ℕ) × HasNewStore c status store.suite segments added own maybe)))
-      ⊎ HasNoStore store c (outside old) (outside new) from status opening added own maybe
+      ⊎ HasNoStore store c (outside old) (outside new) history from status opening added own maybe
 
 -- an anchor's log is the history, all of these commits, and a first part of those
 abbrev pub HasAllOf : List WrittenPiece → Store → History → History → History → Anchor → Type 0
@@ -124,14 +123,15 @@ pub record Leaves {D : Type 0} (outside : D → Outside) (crash_states : D → C
 
 -- The same of a whole run, where its anchor was told; where it wasn't, calls only read.
 abbrev pub StopsOf : {D : Type 0} → (outside : D → Outside) → (crash_states : D → CrashStates) → (store : Store)
-    → {came gone : SourceContent} → (c : Conversation came gone) → (old new : D) → History → (from : StoreState) → (status : Status)
-    → RunRan outside crash_states store c old new from status → Type 0
+    → {came gone : SourceContent} → (c : Conversation came gone) → (old new : D) → (history : History) → (from : StoreState)
+    → (status : Status) → RunRan outside crash_states store c old new history from status → Type 0
 StopsOf outside crash_states store c old new history from status r =
     Leaves outside crash_states store old new history (r.opening ++ (r.added ++ r.own)) r.maybe
     ⊎ (OnlyReads outside crash_states old new × (r.opening ++ ((r.added ++ r.own) ++ r.maybe) ≡ []) × IsNotOpened status)
 
--- Where partitions 1 and 2 were both made and no copies, or neither was there, it is so in each state that a first part of these commits
--- leads to.
-abbrev pub KeepsPartitions : StoreState → List WrittenPiece → Store → History → History → Type 0
-KeepsPartitions from written store history all = HasUserPartitions from.chunks → (a : Anchor) (front rest : History) (to : StoreState)
+-- Where partitions 1 and 2 were both made and no copies, or neither was there, and each text that was written before led to such a state,
+-- it is so in each state that a first part of these commits leads to.
+abbrev pub KeepsPartitions : StoreState → List WrittenPiece → List WrittenPiece → Store → History → History → Type 0
+KeepsPartitions from before written store history all = HasUserPartitions from.chunks
+    → EachText before store.secret (λ last. HasUserPartitions last.chunks) → (a : Anchor) (front rest : History) (to : StoreState)
     → front ++ rest ≡ all → IsLog written store a (history ++ front) to → HasUserPartitions to.chunks

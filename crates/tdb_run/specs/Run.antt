@@ -8,33 +8,43 @@ use Rattle.tdb_stream.specs.SinkContent.{SinkContent}
 use Rattle.tdb_stream.specs.SourceContent.{SourceContent}
 use Rattle.tdb_overlay.specs.Found.{Store}
 use Rattle.tdb_overlay.specs.Growth.{IsSettled}
+use Rattle.tdb_overlay.specs.Images.{IsReliable}
 use Rattle.tdb_overlay.specs.Reading.{OnlyReads}
 use Rattle.tdb_overlay.specs.StoreState.{StoreState}
+use Rattle.tdb_overlay.specs.WellFormedLog.{EachText}
 use Rattle.tdb_recover.specs.Premises.{Premises}
+use Rattle.tdb_recover.specs.Unwritten.{WritesNothing}
 use Rattle.tdb_run.specs.Calls.{Calls}
 use Rattle.tdb_run.specs.Command.{IsCommand, IsFormat, IsNoCommand, IsOfNewStore, IsRun, MakesStore}
 use Rattle.tdb_run.specs.Conversed.{Conversed, TellsFaults}
 use Rattle.tdb_run.specs.LastLine.{EndsWith}
+use Rattle.tdb_run.specs.Opens.{HasUserPartitions}
 use Rattle.tdb_run.specs.Ran.{KeepsPartitions, RunRan, StopsOf}
+use Rattle.tdb_run.specs.Undamaged.{TellsNoDamage}
 use Rattle.tdb_run.specs.declared.status.Success.TheVariants.{Formatted, Script}
 use Rattle.tdb_run.specs.declared.status.Status.{Status}
 use Rattle.tdb_run.specs.declared.status.Status.TheVariants.{AnchorCount, Damaged, Done, PlatformFault, Usage}
 use Rattle.tdb_run.specs.declared.status.Finding.{Finding}
 
--- a new store has the suite that the words say
-abbrev pub FitsWords : List (List ℕ) → Store → Type 0
-FitsWords words store = (suite : Suite) (segments : ℕ) → MakesStore words suite segments → store.suite ≡ suite
+-- where the anchor counts nothing, a new store has the suite that the words say
+abbrev pub FitsWords : Outside → List (List ℕ) → Store → Type 0
+FitsWords old words store = old.anchor.0 ≡ 0 → (suite : Suite) (segments : ℕ) → MakesStore words suite segments → store.suite ≡ suite
 
 -- What was made of a log that the anchor had at the start, and what a stop leaves of it.
 pub record OverLog {D : Type 0} (outside : D → Outside) (crash_states : D → CrashStates) {came gone : SourceContent}
     {before after : SinkContent} (status : Status) (talk : Conversed came gone before after status) (old new : D) (store : Store)
     (history : History) (from : StoreState) : Type 0 where
-  pub ran : RunRan outside crash_states store talk.conversation old new from status
+  pub ran : RunRan outside crash_states store talk.conversation old new history from status
   pub stops : StopsOf outside crash_states store talk.conversation old new history from status ran
-  pub partitions : KeepsPartitions from (outside new).trace.written store history (ran.opening ++ ((ran.added ++ ran.own) ++ ran.maybe))
+  pub partitions : KeepsPartitions from (outside old).trace.written (outside new).trace.written store history
+      (ran.opening ++ ((ran.added ++ ran.own) ++ ran.maybe))
+  -- over a reliable platform it speaks of no damage, where partitions 1 and 2 are as a run makes them, in each text's state
+  pub undamaged : IsReliable outside crash_states store old → HasUserPartitions from.chunks
+      → EachText (outside old).trace.written store.secret (λ last. HasUserPartitions last.chunks)
+      → TellsNoDamage status talk.conversation.replies
 
--- Why a run ends so that carried out no script: by its words, by the count that its anchor had, and by what failed. A store that isn't
--- opened was only read, and a stop leaves the anchor that was told.
+-- Why a run ends so that carried out no script: by its words, by the count that its anchor had, and by what failed. To a store that isn't
+-- opened nothing is written, and a stop leaves the anchor that it has.
 pub record EndsBy {D : Type 0} (outside : D → Outside) (crash_states : D → CrashStates) (words : List (List ℕ)) (old new : D)
     (status : Status) : Type 0 where
   pub usage : (status ≡ Usage) ↔ IsNoCommand words
@@ -49,14 +59,14 @@ pub record EndsBy {D : Type 0} (outside : D → Outside) (crash_states : D → C
   pub not_opened : (status ≡ AnchorCount true) ⊎ (status ≡ AnchorCount false)
       → OnlyReads outside crash_states old new × IsSettled outside crash_states new
   pub damaged : (finding : Finding) → IsRun words → status ≡ Damaged finding
-      → OnlyReads outside crash_states old new × IsSettled outside crash_states new
+      → WritesNothing outside crash_states old new × IsSettled outside crash_states new
 
 -- What a command came to before the last line.
 pub record CarriedOut {D : Type 0} (outside : D → Outside) (crash_states : D → CrashStates) (words : List (List ℕ)) (secret : List ℕ)
     (came gone : SourceContent) (before after : SinkContent) (old new : D) (status : Status) : Type 0 where
   pub talk : Conversed came gone before after status
   pub over : IsCommand words → (store : Store) (history : History) (from : StoreState)
-      → Premises (outside old) (outside new) secret store history from → FitsWords words store
+      → Premises (outside old) (outside new) secret store history from → FitsWords (outside old) words store
       → OverLog outside crash_states status talk old new store history from
   pub ends_by : EndsBy outside crash_states words old new status
   pub faults : TellsFaults came gone before after (outside old) (outside new) status

@@ -1,17 +1,21 @@
 //! Opening the store of a run: the one that is there, or a new one.
 ghost use Rattle.std.specs.Prelude.{◌≡◌, ◌≢◌, ◌⊎◌, ◌≤◌, None, IfErr, IfOk, IsTrue, false};
+ghost use Rattle.tdb_base.specs.declared.piece.Damage.{Damage};
 ghost use Rattle.tdb_chunk.specs.declared.store_format.FormatError.TheVariants as formats;
 ghost use Rattle.tdb_chunk.specs.Standing.{IsReady};
 ghost use Rattle.tdb_chunk.specs.StoreView.{store_in};
 ghost use Rattle.tdb_overlay.specs.Growth.{IsSettled};
 ghost use Rattle.tdb_overlay.specs.Reading.{OnlyReads};
+ghost use Rattle.tdb_recover.specs.Unwritten.{WritesNothing};
 ghost use Rattle.tdb_run.specs.Calls.{Calls, StopFaults};
 ghost use Rattle.tdb_platform.specs.Outside.{Outside};
 ghost use Rattle.tdb_run.specs.Ends as ends;
-ghost use Rattle.tdb_run.specs.Opened.{HasNotOpened, HasOpened, InItsState, IsWhyNot, OverLogs, WhereItStands};
+ghost use Rattle.tdb_run.specs.Opened.{HasBegun, HasNotBegun, HasNotOpened, HasOpened, InItsState, IsWhyNot, OverLogs, WhereItStands};
 ghost use Rattle.tdb_run.specs.Opens.{HasBoth, HasNone, HasUserPartitions, IsToldMade};
+ghost use Rattle.tdb_run.specs.Spared.{IsSpared};
 ghost use Rattle.tdb_run.specs.declared.opening.NotOpened.TheVariants as stops;
 ghost use Rattle.tdb_run.specs.declared.opening.UserPartitions.TheVariants as found;
+ghost use Rattle.tdb_run.specs.declared.status.Finding.TheVariants as findings;
 
 use crate::status::{Finding, Refusal, Status};
 use std::alloc::Global;
@@ -55,32 +59,36 @@ impl NotOpened {
     }
 }
 
-/// Opens the store that is there, and makes partitions 1 and 2 where neither is. Else it gives the platform back.
+/// Opens the store that is there, with the commit that had been begun behind its log where that is shown whole, and makes partitions 1
+/// and 2 where neither is. Else it gives the platform back.
 pub(crate) fn open_store<P: Platform>(
     alloc: Global,
     platform: P,
     secret: &[u8; 32],
 ) -> Result<Store<P>, (P, NotOpened)>
     ensures opened { IfOk result (λ s. OverLogs (P.outside platform) (P.outside s.platform) secret.now
-        (λ store history from. HasOpened P.outside P.crash_states store platform history from s)) }
+        (λ store history from. HasBegun P.outside P.crash_states store platform history from s)) }
     ensures running { IfOk result (λ s. s.stopped ≡ false) }
     ensures secret { IfOk result (λ s. s.secret ≡ secret.now) }
     ensures calls { IfOk result (λ s. Calls P.outside P.crash_states secret.now platform s.platform) }
     ensures quiet { IfOk result (λ s. (P.outside s.platform).faults ≡ (P.outside platform).faults) }
     ensures not_opened { IfErr result (λ e. OverLogs (P.outside platform) (P.outside e.0) secret.now
-        (λ store history from. HasNotOpened P.outside P.crash_states store platform e.0 from
-        × IsWhyNot store (P.outside platform) (P.outside e.0) from e.1)) }
+        (λ store history from. HasNotBegun P.outside P.crash_states store platform e.0 history from e.1)) }
     ensures calls_err { IfErr result (λ e. Calls P.outside P.crash_states secret.now platform e.0) }
     ensures faults { IfErr result (λ e. StopFaults (P.outside platform) (P.outside e.0) e.1) }
-    // a store that isn't opened was only read, but for a fault
-    ensures only_read { IfErr result (λ e. e.1 ≢ stops.PlatformFault
-        → OnlyReads P.outside P.crash_states platform e.0 × IsSettled P.outside P.crash_states e.0) }
-    ensures unformatted { IfErr result (λ e. e.1 ≡ stops.Unformatted → IsTrue (P.outside platform).tells
-        → (P.outside platform).anchor.0 ≡ 0) }
+    // nothing is written to a store that isn't opened, but for a fault
+    ensures unwritten { IfErr result (λ e. e.1 ≢ stops.PlatformFault
+        → WritesNothing P.outside P.crash_states platform e.0 × IsSettled P.outside P.crash_states e.0) }
+    ensures unformatted { IfErr result (λ e. e.1 ≡ stops.Unformatted
+        → (IsTrue (P.outside platform).tells → (P.outside platform).anchor.0 ≡ 0)
+        × OnlyReads P.outside P.crash_states platform e.0 × IsSettled P.outside P.crash_states e.0) }
     ensures unformatted_ok { IfOk result (λ s. IsTrue (P.outside platform).tells → (P.outside platform).anchor.0 ≢ 0) }
     ensures unformatted_always { IfErr result (λ e. IsTrue (P.outside platform).tells → (P.outside platform).anchor.0 ≡ 0
         → (e.1 ≡ stops.Unformatted) ⊎ (e.1 ≡ stops.PlatformFault)) }
     ensures never { IfErr result (λ e. e.1 ≢ stops.AlreadyFormatted) }
+    // over a reliable platform it isn't found damaged
+    ensures reliable { IfErr result (λ e. OverLogs (P.outside platform) (P.outside e.0) secret.now
+        (λ store history from. IsSpared P.outside P.crash_states store platform from e.1)) }
 {
     match Store::attach(alloc, platform, secret) {
         Ok(store) => with_partitions(alloc, store),
@@ -99,14 +107,15 @@ pub(crate) fn new_store<P: Platform>(
     requires least { 16 ≤ segments }
     requires most { segments ≤ 4096 }
     ensures opened { IfOk result (λ s. OverLogs (P.outside platform) (P.outside s.platform) secret.now
-        (λ store history from. store.suite ≡ suite → HasOpened P.outside P.crash_states store platform history from s)) }
+        (λ store history from. ((P.outside platform).anchor.0 ≡ 0 → store.suite ≡ suite)
+        → HasBegun P.outside P.crash_states store platform history from s)) }
     ensures running { IfOk result (λ s. s.stopped ≡ false) }
     ensures secret { IfOk result (λ s. s.secret ≡ secret.now) }
     ensures calls { IfOk result (λ s. Calls P.outside P.crash_states secret.now platform s.platform) }
     ensures quiet { IfOk result (λ s. (P.outside s.platform).faults ≡ (P.outside platform).faults) }
     ensures not_opened { IfErr result (λ e. OverLogs (P.outside platform) (P.outside e.0) secret.now
-        (λ store history from. store.suite ≡ suite → HasNotOpened P.outside P.crash_states store platform e.0 from
-        × IsWhyNot store (P.outside platform) (P.outside e.0) from e.1)) }
+        (λ store history from. ((P.outside platform).anchor.0 ≡ 0 → store.suite ≡ suite)
+        → HasNotBegun P.outside P.crash_states store platform e.0 history from e.1)) }
     ensures calls_err { IfErr result (λ e. Calls P.outside P.crash_states secret.now platform e.0) }
     ensures faults { IfErr result (λ e. StopFaults (P.outside platform) (P.outside e.0) e.1) }
     ensures already { IfErr result (λ e. e.1 ≡ stops.AlreadyFormatted
@@ -116,6 +125,9 @@ pub(crate) fn new_store<P: Platform>(
     ensures already_always { IfErr result (λ e. IsTrue (P.outside platform).tells → (P.outside platform).anchor.0 ≢ 0
         → (e.1 ≡ stops.AlreadyFormatted) ⊎ (e.1 ≡ stops.PlatformFault)) }
     ensures never { IfErr result (λ e. e.1 ≢ stops.Unformatted) }
+    ensures reliable { IfErr result (λ e. OverLogs (P.outside platform) (P.outside e.0) secret.now
+        (λ store history from. ((P.outside platform).anchor.0 ≡ 0 → store.suite ≡ suite)
+        → IsSpared P.outside P.crash_states store platform from e.1)) }
 {
     match Store::format(alloc, platform, secret, suite, segments) {
         Ok(platform) => match open_store(alloc, platform, secret) {
@@ -229,6 +241,7 @@ fn with_partitions<P: Platform>(alloc: Global, store: Store<P>) -> Result<Store<
     ensures only_read { IfErr result (λ e. e.1 ≢ stops.PlatformFault
         → OnlyReads P.outside P.crash_states store.platform e.0 × IsSettled P.outside P.crash_states e.0) }
     ensures formatted { IfErr result (λ e. (e.1 ≢ stops.AlreadyFormatted) × (e.1 ≢ stops.Unformatted)) }
+    ensures untampered { IfErr result (λ e. (damage : Damage) → e.1 ≢ stops.Damaged (findings.Tampered damage)) }
 {
     match user_partitions(&store) {
         UserPartitions::Made => Ok(store),
@@ -260,6 +273,7 @@ fn make_partitions<P: Platform>(alloc: Global, store: Store<P>) -> Result<Store<
     ensures only_read { IfErr result (λ e. e.1 ≢ stops.PlatformFault
         → OnlyReads P.outside P.crash_states store.platform e.0 × IsSettled P.outside P.crash_states e.0) }
     ensures formatted { IfErr result (λ e. (e.1 ≢ stops.AlreadyFormatted) × (e.1 ≢ stops.Unformatted)) }
+    ensures untampered { IfErr result (λ e. (damage : Damage) → e.1 ≢ stops.Damaged (findings.Tampered damage)) }
 {
     let mut store = store;
     let suite = store.suite();

@@ -68,8 +68,9 @@ pub fn run<S: Source, K: Sink, P: Platform>(
     ensures scripts { result.status ≡ Done Script → (suite : Suite) (segments : ℕ) → IsFormat (texts words.now) suite segments → ⊥ }
 
     // The sink holds the replies to the lines taken, and the last line. Where the platform tells its trace, that has no collision and no
-    // forgery, and the anchor had a log: whatever the device shows, the run starts from that log's state, each reply is the session's,
-    // and the log of each anchor that a stop may leave has the commits of the lines that were answered, and at most one more.
+    // forgery, and the anchor had a log: whatever the device shows, the run starts from that log's state, or from that state with the
+    // one commit that had been begun behind it, by what it read ahead of the log. Each reply is the session's, and the log of each
+    // anchor that a stop may leave has the commits of the lines that were answered, and at most one more.
     ensures outcome { runs.RunOutcome P.outside P.crash_states (texts words.now) secret.now (S.content source.old) (S.content source.new)
         (K.content sink.old) (K.content sink.new) platform result.platform result.status }
 

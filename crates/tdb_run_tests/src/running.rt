@@ -46,11 +46,11 @@ fn a_note_is_committed_on_a_fresh_device(rt: HostRuntime) -> Result<(), Fail> {
 fn each_failing_call_ends_a_run_by_its_status(rt: HostRuntime) -> Result<(), Fail> {
     let alloc = rt.alloc();
     let words = ["start", "plain", "16"];
-    for number in 1..20u64 {
+    for number in 1..22u64 {
         let fail = [number];
         // A run makes so many calls of the platform, the source and the sink, and none after them.
         for (failing, calls, status) in [
-            ([fail.as_slice(), &[], &[]], 17, Status::PlatformFault),
+            ([fail.as_slice(), &[], &[]], 19, Status::PlatformFault),
             ([&[], fail.as_slice(), &[]], 1, Status::SourceFault),
             ([&[], &[], fail.as_slice()], 4, Status::SinkFault),
         ] {

@@ -1,4 +1,4 @@
-use Rattle.std.proofs.Common.{subst, sym, Err}
+use Rattle.std.proofs.Common.{◌≢◌, subst, sym, Err}
 use Rattle.tdb_base.specs.declared.suite.Suite.{Suite}
 use Rattle.tdb_model.specs.HasCommitted.{HasCommitted, IsCommitted}
 use Rattle.tdb_model.specs.Opening.{opening_changes}
@@ -7,8 +7,11 @@ use Rattle.tdb_chunk.specs.StoreMeans.{store_means}
 use Rattle.tdb_chunk.specs.StoreView.{StoreView, store_in}
 use Rattle.tdb_run.specs.Opened.{IsWhyNot}
 use Rattle.tdb_run.specs.declared.opening.NotOpened.{NotOpened}
+use Rattle.tdb_run.specs.declared.opening.NotOpened.TheVariants.{Damaged}
 use Rattle.tdb_run.proofs.MakingPartitions.{calls_not_made, not_made, why_not_made}
 use Rattle.tdb_run.proofs.OpeningLaws.{opened_by}
+use Rattle.tdb_run.specs.declared.status.Finding.TheVariants.{Tampered}
+use Rattle.tdb_run.proofs.Sparing.{commit_untampered}
 use Rattle.tdb_run.proofs.opening.make_partitions.Goals as goal
 
 pub returns-in-Ok-clause-opened : goal.returns-in-Ok-clause-opened
@@ -55,3 +58,7 @@ returns-clause-calls_err g c =
     (subst (λ (s : Suite). HasCommitted {C = StoreView g.row.P.Denot} (store_means outside states) (opening_changes s) c.args.store c.commit.new.self
     {T = Unit {0}} (Err c.in-Err.error)) c.suite-suite.ensures
     c.in-Err.ensures.committed) c.requires.missing c.close.result c.close.ensures.platform
+
+pub returns-clause-untampered : goal.returns-clause-untampered
+returns-clause-untampered g c damage = subst (λ (why : NotOpened). why ≢ Damaged (Tampered damage)) (sym c.stop_of_commit.ensures)
+    (commit_untampered c.slot_of-place.result c.in-Err.error damage)

@@ -18,7 +18,8 @@ returns-in-Ok g c =
           (Done (Formatted c.args.suite c.args.segments)))
           (sym c.close.ensures.platform)
           (carried_new outside crash_states g.met.P.Platform.counts g.met.P.Platform.numbered words c.args.secret.now came before
-          c.args.platform s c.args.suite c.args.segments is c.in-Ok.ensures.calls c.in-Ok.ensures.opened c.in-Ok.ensures.quiet
+          c.args.platform s c.args.suite c.args.segments is c.in-Ok.ensures.already_ok c.in-Ok.ensures.calls
+          c.in-Ok.ensures.opened c.in-Ok.ensures.quiet
           (ends_with_new outside crash_states words c.args.platform s.platform c.args.suite c.args.segments (inr is) is
           c.in-Ok.ensures.already_ok));
     }
@@ -32,7 +33,10 @@ returns-in-Err g c =
       carried_out = λ words is came before.
           carried_none outside crash_states g.met.P.Platform.counts g.met.P.Platform.numbered words c.args.secret.now came before
           c.args.platform stop.platform stop.why c.status.result c.status.ensures
-          (λ store history from p fits. stop.ensures.not_opened store history from p (fits c.args.suite c.args.segments (inr is)))
+          (λ store history from p fits. stop.ensures.not_opened store history from p
+          (λ none. fits none c.args.suite c.args.segments (inr is)))
+          (λ store history from p fits. stop.ensures.reliable store history from p
+          (λ none. fits none c.args.suite c.args.segments (inr is)))
           stop.ensures.calls_err stop.ensures.faults
           (ends_without_new outside crash_states words c.args.platform stop.platform c.args.suite c.args.segments (inr is) stop.why
           stop.ensures.already stop.ensures.already_always stop.ensures.never);

@@ -1,0 +1,211 @@
+-- Over a reliable platform no chunk of a store is hurt, and so no reply of its script tells damage.
+use Rattle.std.proofs.Common.{◌≡◌, inl, inr, ⊎_elim, ℕ, ◌≤◌, Bool, List, [], ◌∷◌, ◌++◌, Option, Some, None, IsTrue, refl, sym, ◌∙◌, ap, subst}
+use Rattle.std.specs.FinMap as finmap
+use Rattle.std.specs.List.{AllByRecursion}
+use Rattle.std.specs.Option.{option_and_then, option_map}
+use Rattle.tdb_base.specs.declared.names.PartId.{PartId}
+use Rattle.tdb_base.specs.declared.names.Rank.{Rank}
+use Rattle.tdb_base.specs.declared.piece.Damage.{Damage}
+use Rattle.tdb_base.specs.declared.piece.Piece.{Piece}
+use Rattle.tdb_base.specs.declared.piece.Place.{Place}
+use Rattle.tdb_base.specs.Trace.{IsNumbered, ReadPiece}
+use Rattle.tdb_mark.specs.CommitText.{commit_key_of, commit_of}
+use Rattle.tdb_mark.specs.Unforged.{WasRead}
+use Rattle.tdb_model.specs.Apply.{History}
+use Rattle.tdb_model.specs.Lookup.{chunk_at}
+use Rattle.tdb_platform.specs.CrashStates.{CrashStates}
+use Rattle.tdb_platform.specs.Outside.{Anchor, Outside}
+use Rattle.tdb_script.specs.declared.reply.Reply.{Reply}
+use Rattle.tdb_script.specs.declared.reply.Reply.TheVariants.{Tampered}
+use Rattle.tdb_notes.specs.NotesMachine.{Begins, IsAt, IsTold, Runs, Step}
+use Rattle.tdb_notes.specs.Script.{IsHurt, ScriptState}
+use Rattle.tdb_notes.specs.declared.notes.Notes.{Notes}
+use Rattle.tdb_serve.specs.Answering.{Session}
+use Rattle.tdb_serve.specs.Replies.{Conversation}
+use Rattle.tdb_serve.specs.Running.{NextRan}
+use Rattle.tdb_serve.specs.declared.script_end.ScriptEnd.{ScriptEnd}
+use Rattle.tdb_serve.specs.declared.script_end.ScriptEnd.TheVariants.{Bye, End, SourceFault, SinkFault, PlatformFault, Memory}
+use Rattle.tdb_stream.specs.SourceContent.{SourceContent}
+use Rattle.tdb_seal.specs.SealedRecord.{IsSealedRecord}
+use Rattle.tdb_overlay.specs.Covering.{Covered}
+use Rattle.tdb_overlay.specs.Found.{Store}
+use Rattle.tdb_overlay.specs.Images.{IsReliable}
+use Rattle.tdb_overlay.specs.Keys.{partition_key}
+use Rattle.tdb_overlay.specs.Lookup.{leader_of, seen_in}
+use Rattle.tdb_overlay.specs.Needed.{needed}
+use Rattle.tdb_overlay.specs.Required.{IsRequired}
+use Rattle.tdb_overlay.specs.Sound.{IsSound}
+use Rattle.tdb_overlay.specs.StoreState.{StoreState}
+use Rattle.tdb_overlay.specs.declared.overlay.Leader.{Leader}
+use Rattle.tdb_overlay.specs.declared.overlay.Seen.TheVariants.{Base, Here}
+use Rattle.tdb_overlay.proofs.PutLogs.{in_later_trace}
+use Rattle.tdb_overlay.proofs.RanLaws.{sound_earlier}
+use Rattle.tdb_overlay.proofs.Unmistaken.{read_is_piece}
+use Rattle.tdb_chunk.specs.Shown.{IsDamageOfChunk, IsMalformedChunk, IsPieceOf}
+use Rattle.tdb_chunk.specs.Standing.{StandsAt, StoreGoes}
+use Rattle.tdb_chunk.specs.StoreLaws.{goes_joined, ran_goes, store_itself}
+use Rattle.tdb_chunk.specs.StoreMeans.{store_means}
+use Rattle.tdb_chunk.specs.StoreView.{StoreView, head_in, store_in, written_in}
+use Rattle.tdb_chunk.proofs.Shown.{KnownChunk, in_state}
+use Rattle.tdb_run.proofs.Hurting.{by_bytes}
+
+-- bytes of one of the reads
+read_among : (before earlier later : List ReadPiece) (one : ReadPiece) → WasRead (before ++ (earlier ++ one ∷ later)) one.bytes
+read_among [] [] later one = inl refl
+read_among [] (r ∷ earlier) later one = inr (read_among [] earlier later one)
+read_among (r ∷ before) earlier later one = inr (read_among before earlier later one)
+
+-- a partition that has a piece is told
+led_by : (cover : Option Covered) (rank : ℕ) (piece : Piece)
+    → Here piece ≡ seen_in (option_and_then (λ (c : Covered). finmap.get c.edits rank) cover)
+    → (leader : Leader) × (Some leader ≡ option_map leader_of cover)
+led_by None rank piece here = let no : Here piece ≡ Base = here in absurd (cc)
+led_by (Some c) rank piece here = (leader_of c, refl)
+
+module _ {D : Type 0} (outside : D → Outside) (crash_states : D → CrashStates)
+    (counts : (p : D) (t u : ℕ) (i : List ℕ) (a : Anchor) → t ≤ u → u ≤ (outside p).clock → crash_states p u i a → crash_states p t i a)
+    (numbered : (p : D) → IsTrue (outside p).tells → IsNumbered (outside p).trace)
+    (as_it_reads : (p : D) → IsTrue (outside p).honest → IsTrue (outside p).tells
+    → crash_states p (outside p).clock (outside p).image (outside p).anchor) where
+  -- the record of a chunk that the store knows
+  record_of : (s : StoreView D) (history : History) (last : StoreState) → StandsAt outside s history last → (part rank : ℕ)
+      (leader : Leader) (piece : Piece) → Some leader ≡ option_map leader_of (finmap.get s.log.overlay part) → IsPieceOf s part rank piece
+      → KnownChunk (needed (written_in outside s) (store_in s) (head_in s)) s.secret leader rank piece (chunk_at last.chunks part rank)
+  record_of s history last at part rank leader piece led of =
+      in_state (needed (written_in outside s) (store_in s) (head_in s)) s.secret rank
+      (finmap.get s.log.overlay part) (finmap.get last.chunks part) leader piece (at.knows.chunks part) led (sym of)
+
+  -- It stands in the image of a reliable platform, so an honest device shows no damage of it.
+  unhurt_by_damage : (s n : StoreView D) (history : History) (last : StoreState) → StandsAt outside s history last
+      → IsTrue (outside s.platform).tells → IsReliable outside crash_states (store_in s) s.platform → (part rank : ℕ) (damage : Damage)
+      → IsDamageOfChunk outside part rank damage s n → ⊥
+  unhurt_by_damage s n history last at tells reliable part rank damage d =
+      let led = led_by (finmap.get s.log.overlay part) rank d.piece (sym d.of_chunk) in
+      let known = record_of s history last at part rank led.0 d.piece led.1 d.of_chunk in
+      let needs : IsRequired (written_in outside s) (store_in s) (outside s.platform).anchor d.piece =
+      subst (λ (a : Anchor). IsRequired (written_in outside s) (store_in s) a d.piece) (sym (d.at_head tells)) known.found.1 in
+      d.hidden reliable.honest
+      ((reliable.intact (outside s.platform).image (outside s.platform).anchor (as_it_reads s.platform reliable.honest tells)).stand
+      d.piece needs)
+
+  -- What was shown with its digest is the record that was written, and so the record of the chunk.
+  unhurt_by_form : (s n : StoreView D) (history : History) (last : StoreState) → StandsAt outside s history last
+      → IsSound s.secret (outside n.platform) → StoreGoes outside crash_states s n → (place : Place)
+      → IsMalformedChunk outside place s n → ⊥
+  unhurt_by_form s n history last at sound goes place d =
+      let tells : IsTrue (outside s.platform).tells = subst (λ (b : Bool). IsTrue b) goes.tells sound.tells in
+      let known = record_of s history last at d.part d.rank (leader_of d.partition) d.piece
+      (sym (ap (λ (c : Option Covered). option_map leader_of c) d.is_there)) d.of_chunk in
+      let was : WasRead (outside n.platform).trace.read d.shown.one.bytes =
+      subst (λ (rs : List ReadPiece). WasRead rs d.shown.one.bytes)
+      (sym (d.read.read ∙ ap (λ (rs : List ReadPiece). (outside s.platform).trace.read ++ rs) d.shown.in_order))
+      (read_among (outside s.platform).trace.read d.shown.earlier d.shown.later d.shown.one) in
+      let same : d.shown.one.bytes ≡ known.sealed =
+      read_is_piece (outside n.platform).trace (commit_of (commit_key_of s.secret)) sound.unforged d.shown.one.bytes was d.piece
+      known.sealed
+      (in_later_trace (outside s.platform).trace (outside n.platform).trace (goes.grows tells) d.piece known.sealed known.found.0)
+      d.shown.digest in
+      d.shown.holds known.bytes
+      (subst (λ (bytes : List ℕ). IsSealedRecord (partition_key s.secret d.partition.home d.partition.birth)
+      (record { kind = 1; suite = d.partition.suite; home = d.partition.home; rank = d.rank }) known.bytes bytes) (sym same) known.opened)
+
+  -- the same where the store stood earlier, and its trace is sound later
+  module _ (old new : StoreView D) (sound : IsSound old.secret (outside new.platform)) (history : History) (last : StoreState)
+      (at : StandsAt outside old history last) (reliable : IsReliable outside crash_states (store_in old) old.platform) where
+    secret_in : (s : StoreView D) → StoreGoes outside crash_states old s → s.secret ≡ old.secret
+    secret_in s goes = ap (λ (x : Store). x.secret) goes.same
+
+    sound_at : (s : StoreView D) → StoreGoes outside crash_states s new → IsSound old.secret (outside s.platform)
+    sound_at s goes = sound_earlier outside crash_states counts numbered (store_in old) s.platform new.platform goes.tells goes.grows sound
+
+    pub unhurt : (id : ℕ) → IsHurt (store_means outside crash_states) old new id → ⊥
+    unhurt id (inl hurt) =
+        let seen = hurt.1 in
+        let m = seen.0 in
+        let n = seen.1 in
+        let then = goes_joined outside crash_states counts numbered m n new seen.3 seen.4 in
+        let there = seen.2.stands (sound_at m then) history last at in
+        let still : IsReliable outside crash_states (store_in m) m.platform =
+        subst (λ (x : Store). IsReliable outside crash_states x m.platform) (sym seen.2.same)
+        (seen.2.reliable (sound_at m then) history last at reliable) in
+        unhurt_by_damage m n (history ++ there.0) there.1 there.2 (sound_at m then).tells still 1 id hurt.0 seen.5
+    unhurt id (inr hurt) =
+        let seen = hurt.1 in
+        let m = seen.0 in
+        let n = seen.1 in
+        let then = goes_joined outside crash_states counts numbered m n new seen.3 seen.4 in
+        let there = seen.2.stands (sound_at m then) history last at in
+        unhurt_by_form m n (history ++ there.0) there.1 there.2
+        (subst (λ (k : List ℕ). IsSound k (outside n.platform)) (sym (secret_in m seen.2)) (sound_at n seen.4)) seen.3 hurt.0 seen.5
+
+  abbrev Lines : Notes (StoreView D) → ScriptState → List (List ℕ) → List Reply → History → Notes (StoreView D) → ScriptState → Type 0
+  Lines begun first lines replies added now last =
+      Session (Step (store_means outside crash_states)) (Runs (store_means outside crash_states)) begun first lines replies added now last
+
+  -- what a session leaves of its store
+  pub session_goes : (begun : Notes (StoreView D)) (first : ScriptState) (lines : List (List ℕ)) (replies : List Reply) (added : History)
+      (now : Notes (StoreView D)) (last : ScriptState) → Lines begun first lines replies added now last
+      → StoreGoes outside crash_states begun.store now.store
+  session_goes begun first [] [] added now last is =
+      subst (λ (n : Notes (StoreView D)). StoreGoes outside crash_states begun.store n.store) (sym is.0)
+      (ran_goes outside crash_states counts numbered begun.store begun.store [] []
+      (store_itself outside crash_states counts numbered begun.store))
+  session_goes begun first (line ∷ lines) (reply ∷ replies) added now last is =
+      goes_joined outside crash_states counts numbered begun.store is.0.store now.store
+      (ran_goes outside crash_states counts numbered begun.store is.0.store is.2 [] is.5)
+      (session_goes is.0 is.1 lines replies is.3 now last is.6)
+  session_goes begun first [] (reply ∷ replies) added now last is = absurd is
+  session_goes begun first (line ∷ lines) [] added now last is = absurd is
+
+  -- none of its replies tells damage
+  pub session_unhurt : (begun : Notes (StoreView D)) (first : ScriptState) (lines : List (List ℕ)) (replies : List Reply) (added : History)
+      (now : Notes (StoreView D)) (last : ScriptState) → Lines begun first lines replies added now last
+      → IsSound begun.store.secret (outside now.store.platform) → (history : History) (end : StoreState)
+      → StandsAt outside begun.store history end → IsReliable outside crash_states (store_in begun.store) begun.store.platform
+      → AllByRecursion (λ reply. (part : PartId) (rank : Rank) → reply ≡ Tampered part rank → ⊥) replies
+  session_unhurt begun first [] [] added now last is sound history end at reliable = tt
+  session_unhurt begun first (line ∷ lines) (reply ∷ replies) added now last is sound history end at reliable =
+      let then = ran_goes outside crash_states counts numbered begun.store is.0.store is.2 [] is.5 in
+      let rest = session_goes is.0 is.1 lines replies is.3 now last is.6 in
+      let mid : IsSound begun.store.secret (outside is.0.store.platform) =
+      sound_earlier outside crash_states counts numbered (store_in begun.store) is.0.store.platform now.store.platform rest.tells rest.grows
+      sound in
+      let there = then.stands mid history end at in
+      let secret : is.0.store.secret ≡ begun.store.secret = ap (λ (x : Store). x.secret) then.same in (
+        λ part rank told.
+            let hurt = by_bytes (store_means outside crash_states) begun.store is.0.store first line _ is.4 part rank told in
+            unhurt begun.store is.0.store mid history end at reliable hurt.0 hurt.1,
+        session_unhurt is.0 is.1 lines replies is.3 now last is.6
+            (subst (λ (k : List ℕ). IsSound k (outside now.store.platform)) (sym secret) sound) (history ++ there.0) there.1 there.2
+            (subst (λ (x : Store). IsReliable outside crash_states x is.0.store.platform) (sym then.same)
+            (then.reliable mid history end at reliable)),
+      )
+  session_unhurt begun first [] (reply ∷ replies) added now last is sound history end at reliable = absurd is
+  session_unhurt begun first (line ∷ lines) [] added now last is sound history end at reliable = absurd is
+
+  -- what ran behind the last reply that was put
+  module _ {came gone : SourceContent} (c : Conversation came gone) (mid new : Notes (StoreView D)) (last : ScriptState)
+      (own maybe : History) where
+    abbrev Next : ScriptEnd → Type 0
+    Next end = NextRan (IsTold (store_means outside crash_states)) (IsAt (store_means outside crash_states))
+        (Step (store_means outside crash_states)) (Begins (store_means outside crash_states)) (Runs (store_means outside crash_states))
+        c mid new last own maybe end
+
+    nothing_goes : Next End → StoreGoes outside crash_states mid.store new.store
+    nothing_goes is = subst (λ (n : Notes (StoreView D)). StoreGoes outside crash_states mid.store n.store) (sym is.0)
+        (ran_goes outside crash_states counts numbered mid.store mid.store [] []
+        (store_itself outside crash_states counts numbered mid.store))
+
+    own_goes : Next SinkFault → StoreGoes outside crash_states mid.store new.store
+    own_goes is = ran_goes outside crash_states counts numbered mid.store new.store own [] is.1
+
+    maybe_goes : Next PlatformFault → StoreGoes outside crash_states mid.store new.store
+    maybe_goes is = ran_goes outside crash_states counts numbered mid.store new.store [] maybe is.1
+
+    pub next_goes : (end : ScriptEnd) → Next end → StoreGoes outside crash_states mid.store new.store
+    next_goes Bye is = nothing_goes is
+    next_goes End is = nothing_goes is
+    next_goes SourceFault is = nothing_goes is
+    next_goes SinkFault is = own_goes is
+    next_goes PlatformFault is = maybe_goes is
+    next_goes Memory is = ⊎_elim nothing_goes (λ some. ⊎_elim maybe_goes own_goes some) is
