@@ -36,6 +36,18 @@ put_byte() {
     printf '%s' "$2" | dd of=device bs=1 seek="$1" conv=notrunc status=none
 }
 
+# begun_then_stopped: device and anchor as a stop leaves them that comes behind the sync of the second note's commit and before the
+# anchor is exchanged
+begun_then_stopped() {
+    cp device.after device
+    cp anchor.before anchor
+}
+
+# count_of_anchor: the count that the anchor has, in hexadecimal digits
+count_of_anchor() {
+    od -An -v -tx1 -N8 anchor | tr -d ' \n'
+}
+
 # piece PLACE LENGTH: so many bytes of the device from a place on
 piece() {
     tail -c "+$(($1 + 1))" device | head -c "$2"
@@ -79,7 +91,7 @@ bye" "$(cat replies)"
 
 echo "== The anchor: the count of commit texts in 8 bytes, and the SHA-256 of the last text"
 od -An -v -tx1 anchor
-expect "the count" 0000000000000003 "$(od -An -v -tx1 -N8 anchor | tr -d ' \n')"
+expect "the count" 0000000000000003 "$(count_of_anchor)"
 expect "the mark" "$(piece 512 256 | sha256sum | head -c 64)" "$(mark_of_anchor)"
 
 echo "== The places that were written: place, length, first 8 bytes"
@@ -138,6 +150,7 @@ expect "the last line" "tampered 512 $(mark_of_anchor) $(piece 512 256 | sha256s
 cp kept device
 
 echo "== Another note is committed, and the device of before is put back: the anchor tells"
+cp anchor anchor.before
 printf '%s\n' 'begin 2' 'new 2 note world' 'commit 2' 'quit' >script
 tdb run <script
 paste -d '|' script replies | sed 's/|/   ->   /'
@@ -146,7 +159,59 @@ expect "the replies" "begun 2
 made 2 2
 committed 2
 bye" "$(cat replies)"
+cp device device.after
 cp kept device
+tdb run <get
+cat replies
+echo "status $status"
+expect "the status" 4 "$status"
+expect "the last line" "tampered 768 $(mark_of_anchor) $(piece 768 256 | sha256sum | head -c 64)" "$(cat replies)"
+
+echo "== A stop before the anchor was exchanged: the commit stands whole, and the next run takes it"
+begun_then_stopped
+printf '%s\n' 'begin 1' 'get 1 2' 'quit' >get
+tdb run <get
+paste -d '|' get replies | sed 's/|/   ->   /'
+expect "the status" 0 "$status"
+expect "the replies" "begun 1
+got 1 2 note world
+bye" "$(cat replies)"
+expect "the count" 0000000000000004 "$(count_of_anchor)"
+
+echo "== A stop that tore the commit's text: it is passed over"
+begun_then_stopped
+head -c 100 /dev/zero | tr '\0' '\377' | dd of=device bs=1 seek=900 conv=notrunc status=none
+tdb run <get
+paste -d '|' get replies | sed 's/|/   ->   /'
+expect "the status" 0 "$status"
+expect "the replies" "begun 1
+refused no object 1 2
+bye" "$(cat replies)"
+expect "the count" 0000000000000003 "$(count_of_anchor)"
+
+echo "== One that tore the note: the text stands, the note doesn't, and the commit is passed over"
+begun_then_stopped
+put_byte 263190 x
+tdb run <get
+paste -d '|' get replies | sed 's/|/   ->   /'
+expect "the status" 0 "$status"
+expect "the replies" "begun 1
+refused no object 1 2
+bye" "$(cat replies)"
+expect "the count" 0000000000000003 "$(count_of_anchor)"
+
+echo "== The holder hides such a commit, lets another be made in its place, and puts it back: the anchor tells"
+begun_then_stopped
+head -c 256 /dev/zero | dd of=device bs=1 seek=768 conv=notrunc status=none
+printf '%s\n' 'begin 1' 'new 1 note three' 'commit 1' 'quit' >script
+tdb run <script
+paste -d '|' script replies | sed 's/|/   ->   /'
+expect "the status" 0 "$status"
+expect "the replies" "begun 1
+made 1 2
+committed 1
+bye" "$(cat replies)"
+cp device.after device
 tdb run <get
 cat replies
 echo "status $status"
