@@ -170,7 +170,11 @@ fn nothing_is_asked_for_where_no_commit_may_follow(rt: HostRuntime) -> Result<()
         log.head.count = count;
         log.head.base = base;
         assert!(rt; look_ahead(alloc, &mut platform, &keys, &log)?.is_none());
-        assert_eq!(rt; platform.reads(), reads + asked, "count {count}");
+        assert_eq!(rt;
+            platform.reads(),
+            reads.saturating_add(asked),
+            "count {count}"
+        );
     }
     Ok(())
 }
