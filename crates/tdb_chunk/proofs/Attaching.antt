@@ -52,6 +52,7 @@ module _ {P : Type 0} (outside : P → Outside) (crash_states : P → CrashState
     taken = recovered.taken;
     to = recovered.to;
     takes = recovered.takes;
+    named = recovered.named;
     ran = recovered.ran;
     same = same;
     stands = record { log = both_seen.0; knows = both_seen.1 };

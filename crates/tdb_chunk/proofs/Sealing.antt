@@ -6,10 +6,9 @@ use Rattle.tdb_seal.specs.declared.record.Name.{Name}
 use Rattle.tdb_seal.specs.SealedRecord.{IsSealedRecord}
 use Rattle.tdb_overlay.specs.StoreState.{record_length}
 
--- a record of equal bytes under an equal key
-pub sealed_as : (key given_key : List ℕ) (name : Name) (plain given bytes : List ℕ) → given_key ≡ key → given ≡ plain → IsSealedRecord given_key name given bytes → IsSealedRecord key name plain bytes
-sealed_as key given_key name plain given bytes same_key same sealed =
-    subst (λ (k : List ℕ). IsSealedRecord k name plain bytes) same_key (subst (λ (p : List ℕ). IsSealedRecord given_key name p bytes) same sealed)
+-- a record of equal bytes
+pub sealed_as : (key : List ℕ) (name : Name) (plain given bytes : List ℕ) → given ≡ plain → IsSealedRecord key name given bytes → IsSealedRecord key name plain bytes
+sealed_as key name plain given bytes same sealed = subst (λ (p : List ℕ). IsSealedRecord key name p bytes) same sealed
 
 -- how many bytes the record of few bytes has, at least and at most
 pub record_fits : (suite : Suite) (n : ℕ) → n ≤ 131072 → (1 ≤ record_length suite n) × (record_length suite n ≤ 262144)

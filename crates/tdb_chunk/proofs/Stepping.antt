@@ -27,6 +27,7 @@ use Rattle.tdb_overlay.proofs.NextTexts.{next_by_pieces, start_goes_on}
 use Rattle.tdb_overlay.proofs.OneLog.{log_is_one}
 use Rattle.tdb_overlay.proofs.RanLaws.{still_anchored, still_intact, still_leads}
 use Rattle.tdb_overlay.proofs.SealedPuts.{only_sealed_none}
+use Rattle.tdb_overlay.proofs.TextsRan.{writes_none}
 use Rattle.tdb_chunk.specs.Formatting.{IsStart}
 use Rattle.tdb_chunk.specs.Known.{IsAtHead, Knows, store_of}
 use Rattle.tdb_chunk.specs.Preparing.{IsNext, IsPrepared}
@@ -47,6 +48,7 @@ module _ {D : Type 0} (outside : D → Outside) (crash_states : D → CrashState
       left = here;
       leads = still_leads store t t (extends_itself t) a added;
       anchored = still_anchored store t t (extends_itself t) a;
+      counts = λ before last log. omega arith;
       spares = λ honest is. still_intact store t t (extends_itself t) a i is;
     }
 
@@ -57,9 +59,11 @@ module _ {D : Type 0} (outside : D → Outside) (crash_states : D → CrashState
       grows = λ tells. extends_itself t;
       faults = omega arith;
       sealed = only_sealed_none store.secret (outside p);
-      formed = λ sound kept. kept.anchor.trace;
+      formed = λ sound kept. kept.trace;
+      texts = λ sound. writes_none outside crash_states store p p added refl;
       leads = λ sound. still_leads store t t (extends_itself t) (outside p).anchor added;
       anchored = λ sound is. is;
+      counts = λ sound before last log. omega arith;
       left = λ sound i a here. from_here i a here;
       moments = record {
         later = omega arith;

@@ -389,6 +389,12 @@ module _ {P : Type 0} (outside : P → Outside) (crash_states : P → CrashState
       subst (λ (s : StoreView P). HasRead (store_means outside crash_states) part rank s new result) is
       (subst (λ (s : StoreView P). HasRead (store_means outside crash_states) part rank seen s result) then has)
 
+-- a store is the same under an equal secret
+pub with_secret : {P : Type 0} (platform : P) (log : Recovered) (stopped : Bool) (a b : List ℕ) → a ≡ b
+    → ◌≡◌ {A = StoreView P} (record { platform = platform; secret = a; log = log; stopped = stopped })
+    (record { platform = platform; secret = b; log = log; stopped = stopped })
+with_secret platform log stopped a b same i = record { platform = platform; secret = same i; log = log; stopped = stopped }
+
 -- What the overlay tells of partitions is what the state tells.
 pub infos_as : {P : Type 0} (outside : P → Outside) (old seen : StoreView P) → seen ≡ old → (s : State) → IsInState outside old s
     → infos_told seen.log.overlay ≡ infos_of s

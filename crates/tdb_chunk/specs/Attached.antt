@@ -5,6 +5,7 @@ use Rattle.tdb_platform.specs.CrashStates.{CrashStates}
 use Rattle.tdb_platform.specs.Outside.{Outside}
 use Rattle.tdb_overlay.specs.Found.{Store}
 use Rattle.tdb_overlay.specs.StoreState.{StoreState}
+use Rattle.tdb_recover.specs.Opening.{NamesTaken}
 use Rattle.tdb_recover.specs.Pending.{Takes}
 use Rattle.tdb_recover.specs.Settled.{RanSettled}
 use Rattle.tdb_chunk.specs.Standing.{StandsAt}
@@ -16,6 +17,7 @@ pub record HasAttached {D : Type 0} (outside : D → Outside) (crash_states : D 
   pub taken : History
   pub to : StoreState
   pub takes : Takes (outside old).trace.written store (outside old).anchor history from taken to
+  pub named : NamesTaken takes (outside s.platform).anchor
   pub ran : RanSettled outside crash_states store old taken [] s.platform
   pub same : store_in s ≡ store
   pub stands : StandsAt outside s (history ++ taken) to

@@ -27,15 +27,18 @@ Known = StoreState → Type 0
 -- is that one, and behind it commits that belong.
 abbrev pub HasGrownFrom : Known → Store → Outside → Outside → Commits → Anchor → Type 0
 HasGrownFrom known store old new belongs anchor =
-    IsUnforged new.trace (commit_of (commit_key_of store.secret)) → (before : History) (from : StoreState) → IsLog old.trace.written store old.anchor before from → known from
+    IsUnforged new.trace (commit_of (commit_key_of store.secret)) → (before : History) (from : StoreState)
+    → IsLog old.trace.written store old.anchor before from → known from
     → (more : History) × (to : StoreState) × belongs from more to × IsLog new.trace.written store anchor (before ++ more) to
 
 -- A call added these commits to a log that ends in a known state, or failed. A stop since its start leaves the log with or
 -- without them.
-pub record AddedFrom {D T E : Type 0} (outside : D → Outside) (crash_states : D → CrashStates) (known : Known) (store : Store) (old new : D) (added : Commits) (result : Result T E) : Type 0 where
+pub record AddedFrom {D T E : Type 0} (outside : D → Outside) (crash_states : D
+    → CrashStates) (known : Known) (store : Store) (old new : D) (added : Commits) (result : Result T E) : Type 0 where
   pub grows : Extends (outside old).trace (outside new).trace
   pub history : HasGrownFrom known store (outside old) (outside new) (UnlessErr added result) (outside new).anchor
-  pub left : (i : List ℕ) (a : Anchor) → now outside crash_states new i a → HasGrownFrom known store (outside old) (outside new) (UnlessErr added result) a
+  pub left : (i : List ℕ) (a : Anchor) → now outside crash_states new i a
+      → HasGrownFrom known store (outside old) (outside new) (UnlessErr added result) a
   pub any_moment : LeavesOnly outside crash_states old new (λ i a. HasGrownFrom known store (outside old) (outside new) (OrNothing added) a)
 
 -- an answer of the definition, and not of what happened meanwhile
@@ -70,17 +73,24 @@ pub record IsLonger (old new : Outside) (was now : OpenLog) (changes : List Chan
   pub knows : Knows new now to
 
 -- Of a commit of changes: what it adds to the log, what the store knows afterwards, and what each refusal means.
-pub record IsCommitCall {D T : Type 0} (outside : D → Outside) (crash_states : D → CrashStates) (changes : List Change) (was now_is : OpenLog) (old new : D) (result : Result T CommitError) : Type 0 where
+pub record IsCommitCall {D T : Type 0} (outside : D → Outside) (crash_states : D
+    → CrashStates) (changes : List Change) (was now_is : OpenLog) (old new : D) (result : Result T CommitError) : Type 0 where
   -- it adds one commit of these changes to the log that the store knows
-  pub added : IsTrue (outside old).tells → AddedFrom outside crash_states (Knows (outside old) was) (store_of was) old new (OneCommit (store_of was) changes) result
-  pub knows : IsTrue (outside old).tells → OnOk result (IsUnforged (outside new).trace (commit_of (commit_key_of was.keys)) → (before : History) (from : StoreState)
-      → IsLog (outside old).trace.written (store_of was) (outside old).anchor before from → Knows (outside old) was from → IsLonger (outside old) (outside new) was now_is changes before from)
-  -- where the pieces stood that the log needed, those stand that it needs now
-  pub whole : IsTrue (outside old).tells → IsUnforged (outside new).trace (commit_of (commit_key_of was.keys)) → (before : History) (from : StoreState)
+  pub added : IsTrue (outside old).tells
+      → AddedFrom outside crash_states (Knows (outside old) was) (store_of was) old new (OneCommit (store_of was) changes) result
+  pub knows : IsTrue (outside old).tells → OnOk result (IsUnforged (outside new).trace (commit_of (commit_key_of was.keys))
+      → (before : History) (from : StoreState)
       → IsLog (outside old).trace.written (store_of was) (outside old).anchor before from → Knows (outside old) was from
-      → IsIntact (outside old).trace.written (store_of was) (outside old).anchor → IsIntact (outside new).trace.written (store_of was) (outside new).anchor
+      → IsLonger (outside old) (outside new) was now_is changes before from)
+  -- where the pieces stood that the log needed, those stand that it needs now
+  pub whole : IsTrue (outside old).tells → IsUnforged (outside new).trace (commit_of (commit_key_of was.keys))
+      → (before : History) (from : StoreState)
+      → IsLog (outside old).trace.written (store_of was) (outside old).anchor before from → Knows (outside old) was from
+      → IsIntact (outside old).trace.written (store_of was) (outside old).anchor
+      → IsIntact (outside new).trace.written (store_of was) (outside new).anchor
   -- whatever is refused, is refused by the definition; only for memory and for a fault a call may fail otherwise
-  pub refused : (last : StoreState) → Knows (outside old) was last → IfErr result (λ e. IsTrue (is_refusal e) → commit_on (store_of was) last changes ≡ Err e)
+  pub refused : (last : StoreState) → Knows (outside old) was last
+      → IfErr result (λ e. IsTrue (is_refusal e) → commit_on (store_of was) last changes ≡ Err e)
   pub allowed : (last : StoreState) → Knows (outside old) was last → OnOk result (IsAllowedOn (store_of was) last changes)
   pub fault_allowed : result ≡ Err Fault → (last : StoreState) → Knows (outside old) was last → IsAllowedOn (store_of was) last changes
   -- what was refused or failed leaves the open log as it was, and the platform too unless that failed

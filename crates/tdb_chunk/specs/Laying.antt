@@ -67,7 +67,8 @@ HasOwner part (Some s) owner = s.parent ≡ 0 → IsSomeAnd owner (IsOwner part 
 abbrev pub owner_after : ℕ → PartId → Change → Option Owner → Option Owner
 owner_after count part (Write written rank bytes) owner = owner
 owner_after count part (Free freed rank) owner = owner
-owner_after count part (Make new suite) owner = if new.0 == part.0 then Some (record { part = part; suite = suite; home = part.0; birth = count }) else owner
+owner_after count part (Make new suite) owner = if new.0 == part.0 then Some
+    (record { part = part; suite = suite; home = part.0; birth = count }) else owner
 owner_after count part (Copy from to) owner = if to.0 == part.0 then None else owner
 owner_after count part (Drop dropped) owner = if dropped.0 == part.0 then None else owner
 
@@ -89,14 +90,24 @@ entry_without kind part rank suite = record {
 
 -- the entry of a write of a chunk whose record is the piece
 abbrev pub entry_with : Owner → ℕ → Piece → Entry
-entry_with owner rank piece = record { kind = 1; part = owner.part.0; rank = rank; suite = suite_number owner.suite; home = owner.home; birth = owner.birth; piece = piece }
+entry_with owner rank piece = record {
+  kind = 1;
+  part = owner.part.0;
+  rank = rank;
+  suite = suite_number owner.suite;
+  home = owner.home;
+  birth = owner.birth;
+  piece = piece;
+}
 
 -- The records that entries name were placed from one space to another, while so many segments stay free.
 abbrev pub ArePlaced : SegmentSpace → ℕ → List Entry → SegmentSpace → Type 0
-ArePlaced start keep entries space = fits start (map (λ p. p.length) (named_records entries)) keep ≡ Ok (map (λ p. p.place) (named_records entries), space)
+ArePlaced start keep entries space = fits start (map (λ p. p.length) (named_records entries)) keep
+    ≡ Ok (map (λ p. p.place) (named_records entries), space)
 
 -- The entry says the change, on a state, and its record is placed behind others.
-pub record IsLaid (secret : List ℕ) (state : State) (keep : ℕ) (start : SegmentSpace) (change : Change) (before : List Placed) (behind : SegmentSpace) (e : Entry) (pieces : List Placed) (space : SegmentSpace) : Type 0 where
+pub record IsLaid (secret : List ℕ) (state : State) (keep : ℕ) (start : SegmentSpace) (change : Change) (before : List Placed)
+    (behind : SegmentSpace) (e : Entry) (pieces : List Placed) (space : SegmentSpace) : Type 0 where
   pub says : IsChangeOf (in_pieces pieces) secret e change
   pub owned : IsOwned state e change
   pub entry : IsEntry e
@@ -107,7 +118,8 @@ pub record IsLaid (secret : List ℕ) (state : State) (keep : ℕ) (start : Segm
   pub laid : LaidOut secret start space pieces
 
 -- So do entries of changes, each on the state after those before it.
-pub record AreAllLaid (secret : List ℕ) (count : ℕ) (state : State) (keep : ℕ) (start : SegmentSpace) (changes : List Change) (entries : List Entry) (pieces : List Placed) (space : SegmentSpace) : Type 0 where
+pub record AreAllLaid (secret : List ℕ) (count : ℕ) (state : State) (keep : ℕ) (start : SegmentSpace) (changes : List Change)
+    (entries : List Entry) (pieces : List Placed) (space : SegmentSpace) : Type 0 where
   pub each : AreChangesOf (in_pieces pieces) secret entries changes
   pub owned : AreOwned count state entries changes
   pub grammar : AllByRecursion IsEntry entries

@@ -37,14 +37,17 @@ pub record IsAllowed (entries : List Entry) (changes : List Change) (last : Stor
   pub owned : AreOwned (last.count + 1) last.chunks entries changes
 
 -- Entries of changes whose records are placed from the store's segments on, while as many stay free as the changes ask.
-pub record IsPrepared (outside : Outside) (store : OpenLog) (keep : ℕ) (entries : List Entry) (pieces : List Placed) (space : SegmentSpace) (changes : List Change) : Type 0 where
+pub record IsPrepared (outside : Outside) (store : OpenLog) (keep : ℕ) (entries : List Entry) (pieces : List Placed)
+    (space : SegmentSpace) (changes : List Change) : Type 0 where
   pub each : AreChangesOf (in_pieces pieces) store.keys entries changes
-  pub fit : fits store.log.segments (map (λ p. p.length) (named_records entries)) keep ≡ Ok (map (λ p. p.place) (named_records entries), space)
+  pub fit : fits store.log.segments (map (λ p. p.length) (named_records entries)) keep
+      ≡ Ok (map (λ p. p.place) (named_records entries), space)
   pub room : kept_free changes ≡ keep
   pub allowed : (last : StoreState) → Knows outside store last → IsAllowed entries changes last
 
 -- The list of the entries is laid behind the records, while so many segments stay free, and the next text names it.
-pub record IsNext (store : OpenLog) (keep : ℕ) (entries : List Entry) (before : List Placed) (behind : SegmentSpace) (c : Commit) (pieces : List Placed) (space : SegmentSpace) : Type 0 where
+pub record IsNext (store : OpenLog) (keep : ℕ) (entries : List Entry) (before : List Placed) (behind : SegmentSpace) (c : Commit)
+    (pieces : List Placed) (space : SegmentSpace) : Type 0 where
   pub first : Piece
   pub commit : c ≡ next_commit store.log.suite store.log.head 1 store.log.head.base store.log.segments.segments first
   pub in_format : IsInFormat c

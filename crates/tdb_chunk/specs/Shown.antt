@@ -20,9 +20,11 @@ use Rattle.tdb_chunk.specs.Standing.{StoreGoes}
 use Rattle.tdb_chunk.specs.StoreView.{StoreView, head_in}
 
 -- what holds of two values of a store that come, one after the other, between two others
-abbrev pub Between : {P : Type 0} → (P → Outside) → (P → CrashStates) → StoreView P → StoreView P → (StoreView P → StoreView P → Type 0) → Type 0
+abbrev pub Between : {P : Type 0} → (P → Outside) → (P → CrashStates) → StoreView P → StoreView P → (StoreView P → StoreView P → Type 0)
+    → Type 0
 Between {P} outside crash_states old new Q =
-    (m n : StoreView P) × StoreGoes outside crash_states old m × StoreGoes outside crash_states m n × StoreGoes outside crash_states n new × Q m n
+    (m n : StoreView P) × StoreGoes outside crash_states old m × StoreGoes outside crash_states m n × StoreGoes outside crash_states n new
+    × Q m n
 
 -- the piece of a chunk's record: what the lists that the store has taken in say of the chunk
 abbrev pub IsPieceOf : {P : Type 0} → StoreView P → ℕ → ℕ → Piece → Type 0

@@ -177,7 +177,8 @@ module _ {P : Type 0} (outside : P → Outside) (crash_states : P → CrashState
           kept = kept_on first.count then.count first.kept then.kept;
           stands = λ sound history last at.
               let between = first.stands (mid sound) history last at in
-              let end = then.stands (sound_of_later a b first.same (outside c.platform) sound) (history ++ between.0) between.1 between.2 in (
+              let end = then.stands (sound_of_later a b first.same (outside c.platform) sound)
+              (history ++ between.0) between.1 between.2 in (
                 between.0 ++ end.0,
                 end.1,
                 subst (λ (h : History). StandsAt outside c h end.1) (append_assoc history between.0 end.0) end.2,

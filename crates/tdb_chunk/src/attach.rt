@@ -6,7 +6,7 @@ ghost use Rattle.tdb_base.specs.declared.piece.Place.{Place};
 ghost use Rattle.tdb_model.specs.Apply.{History};
 ghost use Rattle.tdb_overlay.specs.Found as found;
 ghost use Rattle.tdb_overlay.specs.Growth.{IsSettled};
-ghost use Rattle.tdb_overlay.specs.Images.{IsReliable};
+ghost use Rattle.tdb_overlay.specs.Images.{IsReliableUnder};
 ghost use Rattle.tdb_overlay.specs.Reading.{OnlyReads};
 ghost use Rattle.tdb_overlay.specs.Required.{IsOpeningPiece};
 ghost use Rattle.tdb_overlay.specs.StoreState.{StoreState};
@@ -54,31 +54,37 @@ impl<P: Platform> Store<P> {
         ensures not_attached { IfErr result (λ e. (store : found.Store) (history : History) (from : StoreState)
             → Premises (P.outside platform) (P.outside e.0) secret.now store history from
             → HasNotRecovered P.outside P.crash_states platform e.0 store history from) }
-        // the anchor is as it was, or it names the commit that was shown whole
-        ensures anchor_err { IfErr result (λ e. IsTrue (P.outside platform).tells → StaysOrTakes (P.outside platform) (P.outside e.0) secret.now) }
+        // it was only read, or the anchor is as it was or names the commit that was shown whole
+        ensures anchor_err { IfErr result (λ e. IsTrue (P.outside platform).tells
+            → StaysOrTakes P.outside P.crash_states platform e.0 secret.now) }
         // nothing was written; unless the platform failed, it was only read, no fault is hidden, and a stop now leaves the anchor that was told
         ensures unwritten_err { IfErr result (λ e. WritesNothing P.outside P.crash_states platform e.0) }
         ensures reads_err { IfErr result (λ e. e.1 ≢ opens.Fault → OnlyReads P.outside P.crash_states platform e.0) }
         ensures settled_err { IfErr result (λ e. e.1 ≢ opens.Fault → IsSettled P.outside P.crash_states e.0) }
         ensures quiet_err { IfErr result (λ e. e.1 ≢ opens.Fault → (P.outside e.0).faults ≡ (P.outside platform).faults) }
-        ensures unformatted { IfErr result (λ e. e.1 ≡ opens.Unformatted → IsTrue (P.outside platform).tells → (P.outside platform).anchor.0 ≡ 0) }
+        ensures unformatted { IfErr result (λ e. e.1 ≡ opens.Unformatted → IsTrue (P.outside platform).tells
+            → (P.outside platform).anchor.0 ≡ 0) }
         ensures unformatted_always { IsTrue (P.outside platform).tells → (P.outside platform).anchor.0 ≡ 0
             → (back : P) × ((result ≡ Err (back, opens.Unformatted)) ⊎ (result ≡ Err (back, opens.Fault))) }
         // damage is told only of a text since the last checkpoint, of the table or of a list, and the last read of it showed it
-        ensures tampered { IfErr result (λ e. (damage : Damage) → e.1 ≡ opens.Tampered damage → (store : found.Store) (history : History) (from : StoreState)
+        ensures tampered { IfErr result (λ e. (damage : Damage) → e.1 ≡ opens.Tampered damage
+            → (store : found.Store) (history : History) (from : StoreState)
             → Premises (P.outside platform) (P.outside e.0) secret.now store history from
-            → IsDamageOf (P.outside platform) (P.outside e.0) (IsOpeningPiece (P.outside platform).trace.written store (P.outside platform).anchor) damage) }
+            → IsDamageOf (P.outside platform) (P.outside e.0)
+            (IsOpeningPiece (P.outside platform).trace.written store (P.outside platform).anchor) damage) }
         // on a reliable platform no damage is told
-        ensures reliable { IfErr result (λ e. (damage : Damage) → e.1 ≡ opens.Tampered damage → (store : found.Store) (history : History) (from : StoreState)
+        ensures reliable { IfErr result (λ e. (damage : Damage) → e.1 ≡ opens.Tampered damage
+            → (store : found.Store) (history : History) (from : StoreState)
             → Premises (P.outside platform) (P.outside e.0) secret.now store history from
-            → IsReliable P.outside P.crash_states store platform → ⊥) }
+            → IsReliableUnder P.outside P.crash_states secret.now platform → ⊥) }
         // a piece that has its digest fits the others
-        ensures form { IfErr result (λ e. (place : Place) → e.1 ≡ opens.Form place → (store : found.Store) (history : History) (from : StoreState)
+        ensures form { IfErr result (λ e. (place : Place) → e.1 ≡ opens.Form place
+            → (store : found.Store) (history : History) (from : StoreState)
             → Premises (P.outside platform) (P.outside e.0) secret.now store history from → ⊥) }
         ensures fault { IfErr result (λ e. e.1 ≡ opens.Fault → Rose (P.outside platform).faults (P.outside e.0).faults) }
     {
         let mut platform = platform;
-        let keys = Keys::new(secret);
+        let keys = Keys::new(alloc, secret);
         match recover(alloc, &mut platform, &keys) {
             Ok(log) => Ok(Store {
                 platform,

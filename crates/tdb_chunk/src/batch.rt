@@ -63,10 +63,13 @@ impl Batch {
         ensures size { IfOk result (λ piece. piece.length ≡ length bytes.items) }
         ensures digest { IfOk result (λ piece. piece.digest.0 ≡ sha256 bytes.items) }
         ensures place { IfOk result (λ piece. place_in self.old.segments (length bytes.items) keep ≡ Ok (piece.place, self.new.segments)) }
-        ensures pieces { IfOk result (λ piece. placed self.new.pieces.items ≡ placed self.old.pieces.items ++ record { place = piece.place.0; bytes = bytes.items } ∷ []) }
-        ensures laid_out { OnOk result ((secret : List ℕ) (start : SegmentSpace) → IsRecord secret bytes.items → LaidOut secret start self.old.segments (placed self.old.pieces.items)
+        ensures pieces { IfOk result (λ piece. placed self.new.pieces.items
+            ≡ placed self.old.pieces.items ++ record { place = piece.place.0; bytes = bytes.items } ∷ []) }
+        ensures laid_out { OnOk result ((secret : List ℕ) (start : SegmentSpace) → IsRecord secret bytes.items
+            → LaidOut secret start self.old.segments (placed self.old.pieces.items)
             → LaidOut secret start self.new.segments (placed self.new.pieces.items)) }
-        ensures refused { (refusal : refusals.NoRoom) → result ≡ Err (NoRoom refusal) → place_in self.old.segments (length bytes.items) keep ≡ Err refusal }
+        ensures refused { (refusal : refusals.NoRoom) → result ≡ Err (NoRoom refusal)
+            → place_in self.old.segments (length bytes.items) keep ≡ Err refusal }
     {
         let length = bytes.len() as u32;
         let place = match self.segments.place(length, keep) {

@@ -59,13 +59,17 @@ impl OpenLog {
     pub(crate) fn may_follow(&self, number: usize) -> Result<(), CommitError>
         requires few { number < 2 ^ 32 }
         ensures many { (result ≡ Err (refusals.TooManyChanges number)) ↔ (1024 < number) }
-        ensures ring_full { (result ≡ Err refusals.RingFull) ↔ ((number ≤ 1024) × (self.now.log.head.count ≡ self.now.log.head.base + 1000)) }
+        ensures ring_full { (result ≡ Err refusals.RingFull) ↔ ((number ≤ 1024)
+            × (self.now.log.head.count ≡ self.now.log.head.base + 1000)) }
         ensures counter_end { (result ≡ Err refusals.CounterEnd)
-            ↔ ((number ≤ 1024) × (self.now.log.head.count ≢ self.now.log.head.base + 1000) × (self.now.log.head.count ≡ 18446744073709551615)) }
-        ensures ok { OnOk result ((number ≤ 1024) × (self.now.log.head.count ≢ self.now.log.head.base + 1000) × (self.now.log.head.count < 18446744073709551615)) }
+            ↔ ((number ≤ 1024) × (self.now.log.head.count ≢ self.now.log.head.base + 1000)
+            × (self.now.log.head.count ≡ 18446744073709551615)) }
+        ensures ok { OnOk result ((number ≤ 1024) × (self.now.log.head.count ≢ self.now.log.head.base + 1000)
+            × (self.now.log.head.count < 18446744073709551615)) }
         ensures refusal { IfErr result (λ e. IsTrue (is_refusal e)) }
         ensures right { IfErr result (IsRightOf number self.now.log.head.count) }
-        ensures refused { (store : found.Store) (last : StoreState) (changes : List change.Change) → length changes ≡ number → last.count ≡ self.now.log.head.count → last.base ≡ self.now.log.head.base
+        ensures refused { (store : found.Store) (last : StoreState) (changes : List change.Change) → length changes ≡ number
+            → last.count ≡ self.now.log.head.count → last.base ≡ self.now.log.head.base
             → check last.chunks changes ≡ None → IfErr result (λ e. commit_on store last changes ≡ Err e) }
     {
         if number > CHANGE_LIMIT {
@@ -89,7 +93,8 @@ impl OpenLog {
         ensures refusal { IfErr result (λ e. IsTrue (is_refusal e)) }
         ensures right { IfErr result (IsRightOf (length changes.now) self.now.log.head.count) }
         ensures many { 1024 < length changes.now → result ≡ Err (refusals.TooManyChanges (length changes.now)) }
-        ensures refused { IfErr result (λ e. (o : Outside) (last : StoreState) → Knows o self.now last → commit_on (store_of self.now) last changes.now ≡ Err e) }
+        ensures refused { IfErr result (λ e. (o : Outside) (last : StoreState) → Knows o self.now last
+            → commit_on (store_of self.now) last changes.now ≡ Err e) }
     {
         if changes.len() > CHANGE_LIMIT {
             return Err(CommitError::TooManyChanges {
@@ -148,8 +153,10 @@ impl OpenLog {
         requires values { AllByRecursion IsEntryValue entries.now }
         requires counts_on { self.now.log.head.count < 18446744073709551615 }
         requires laid_out { LaidOut self.now.keys self.now.log.segments batch.segments (placed batch.pieces.items) }
-        ensures next { IfOk result (λ next. IsNext self.now keep entries.now (placed batch.pieces.items) batch.segments next.commit (placed next.batch.pieces.items) next.batch.segments) }
-        ensures refused { (refusal : room.NoRoom) → result ≡ Err (lay.NoRoom refusal) → place_in batch.segments (record_length self.now.log.suite (16 + 72 * length entries.now)) keep ≡ Err refusal }
+        ensures next { IfOk result (λ next. IsNext self.now keep entries.now (placed batch.pieces.items) batch.segments next.commit
+            (placed next.batch.pieces.items) next.batch.segments) }
+        ensures refused { (refusal : room.NoRoom) → result ≡ Err (lay.NoRoom refusal)
+            → place_in batch.segments (record_length self.now.log.suite (16 + 72 * length entries.now)) keep ≡ Err refusal }
     {
         let list = seal_list(alloc, &self.keys, self.log.suite, entries)?;
         let first = batch.lay(list, keep)?;
@@ -182,7 +189,8 @@ impl OpenLog {
         requires not_full { self.old.log.head.count ≢ self.old.log.head.base + 1000 }
         requires counts_on { self.old.log.head.count < 18446744073709551615 }
         requires laid_out { LaidOut self.old.keys self.old.log.segments batch.segments (placed batch.pieces.items) }
-        ensures commit { (changes : List change.Change) → IsPrepared (P.outside platform.old) self.old keep entries.now (placed batch.pieces.items) batch.segments changes
+        ensures commit { (changes : List change.Change)
+            → IsPrepared (P.outside platform.old) self.old keep entries.now (placed batch.pieces.items) batch.segments changes
             → IsCommitCall P.outside P.crash_states changes self.old self.new platform.old platform.new result }
         ensures late { IfErr result (λ e. is_early e ≡ false) }
         ensures noted { OnOk result (self.new.log.overlay ≡ noted_all (self.old.log.head.count + 1) self.old.log.overlay entries.now) }

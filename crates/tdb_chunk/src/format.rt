@@ -107,7 +107,8 @@ fn lay_start(
     requires least { 16 ≤ segments }
     requires most { segments ≤ 4096 }
     requires head { head.now.count ≡ 0 }
-    ensures start { IfOk result (λ start. IsStart (store_under keys.now suite) head.now segments start.commit (placed start.batch.pieces.items) start.batch.segments) }
+    ensures start { IfOk result (λ start. IsStart (store_under keys.now suite) head.now segments start.commit
+        (placed start.batch.pieces.items) start.batch.segments) }
     ensures memory { IfErr result (λ e. e ≡ Memory) }
 {
     let Ok(table) = seal_table(alloc, keys, suite, &first_space(suite, segments).table()) else {
@@ -139,7 +140,9 @@ impl OpenLog {
         ensures at_head { IfOk result (λ store. IsAtHead (P.outside platform.new) store) }
         ensures settled { OnOk result (IsSettled P.outside P.crash_states platform.new) }
         // the log has its first text, and no commit
-        ensures added { IsTrue (P.outside platform.old).tells → Added P.outside P.crash_states (store_under keys suite) platform.old platform.new (Formatted (store_under keys suite) segments) result }
+        ensures added { IsTrue (P.outside platform.old).tells
+            → Added P.outside P.crash_states (store_under keys suite) platform.old platform.new
+            (Formatted (store_under keys suite) segments) result }
         ensures knows { IfOk result (λ store. Knows (P.outside platform.new) store (formatted_state (store_under keys suite) segments)) }
         // no piece that the log needs was written over
         ensures whole { StaysIntact (store_under keys suite) (P.outside platform.old) (P.outside platform.new) }

@@ -26,7 +26,7 @@ use tdb_base::{Bytes, Digest, PartId, Piece, Place, Rank};
 use tdb_list::Entry;
 use tdb_model::Change;
 use tdb_overlay::{Keys, Overlay};
-use tdb_seal::{Name, seal_record};
+use tdb_seal::Name;
 
 /// How many segments stay free of a commit that only frees and drops.
 const KEPT_BY_FREES: u32 = 2;
@@ -144,7 +144,7 @@ fn write_entry(owner: &Owner, rank: Rank, piece: Piece) -> Entry
 /// Seals the bytes of a chunk under the suite and the key of its owner.
 fn seal_bytes(
     alloc: Global,
-    keys: &Keys,
+    keys: &mut Keys,
     owner: &Owner,
     rank: Rank,
     chunk: &Bytes,
@@ -152,20 +152,21 @@ fn seal_bytes(
     requires key { HasKey owner.now }
     requires rank { rank.0 < 262144 }
     requires short { length chunk.now ≤ 65536 }
-    ensures sealed { IfOk result (λ bytes. IsSealedRecord (partition_key keys.now owner.now.home owner.now.birth) (name_in owner.now rank.0) chunk.now bytes.items) }
-    ensures is_record { IfOk result (λ bytes. IsRecord keys.now bytes.items) }
+    ensures same { keys.new ≡ keys.old }
+    ensures sealed { IfOk result (λ bytes. IsSealedRecord (partition_key keys.old owner.now.home owner.now.birth)
+        (name_in owner.now rank.0) chunk.now bytes.items) }
+    ensures is_record { IfOk result (λ bytes. IsRecord keys.old bytes.items) }
     ensures size { IfOk result (λ bytes. length bytes.items ≡ space.record_length owner.now.suite (length chunk.now)) }
     ensures some { IfOk result (λ bytes. 1 ≤ length bytes.items) }
     ensures most { IfOk result (λ bytes. length bytes.items ≤ 262144) }
 {
-    let key = keys.partition(PartId(owner.home), owner.birth);
     let name = Name {
         kind: CHUNK,
         suite: owner.suite,
         home: owner.home,
         rank: rank.0,
     };
-    seal_record(alloc, &key, &name, chunk.as_slice())
+    keys.seal_chunk(alloc, owner.part, owner.birth, &name, chunk.as_slice())
 }
 
 // What an overlay tells of the owner of a partition's chunks.
@@ -186,17 +187,20 @@ fn told_owner(overlay: &Overlay, part: PartId) -> Option<Owner>
 impl OpenLog {
     /// Seals the changes of a commit that passes, and places their records.
     pub(crate) fn lay_changes(
-        &self,
+        &mut self,
         alloc: Global,
         changes: &[Change],
     ) -> Result<LaidChanges, LayError>
-        requires passes { check (bare_state self.now.log.overlay) changes.now ≡ None }
-        requires counts_on { self.now.log.head.count < 18446744073709551615 }
+        requires passes { check (bare_state self.old.log.overlay) changes.now ≡ None }
+        requires counts_on { self.old.log.head.count < 18446744073709551615 }
+        ensures same { self.new ≡ self.old }
         ensures keep { IfOk result (λ laid. laid.keep ≡ space.kept_free changes.now) }
-        ensures laid { IfOk result (λ laid. AreAllLaid self.now.keys (self.now.log.head.count + 1) (bare_state self.now.log.overlay) (space.kept_free changes.now) self.now.log.segments
+        ensures laid { IfOk result (λ laid. AreAllLaid self.old.keys (self.old.log.head.count + 1) (bare_state self.old.log.overlay)
+            (space.kept_free changes.now) self.old.log.segments
             changes.now laid.entries.items (placed laid.batch.pieces.items) laid.batch.segments) }
         ensures refused { (refusal : room.NoRoom) → result ≡ Err (lay.NoRoom refusal)
-            → fits self.now.log.segments (space.records_of (store_of self.now) (self.now.log.head.count + 1) (bare_state self.now.log.overlay) changes.now) (space.kept_free changes.now) ≡ Err refusal }
+            → fits self.old.log.segments (space.records_of (store_of self.old) (self.old.log.head.count + 1)
+            (bare_state self.old.log.overlay) changes.now) (space.kept_free changes.now) ≡ Err refusal }
     {
         self.log.segments.known();
         let keep = kept_free(changes);
@@ -218,20 +222,23 @@ impl OpenLog {
 
     /// The entry of a change behind earlier ones. The record of a write is placed.
     fn lay_change(
-        &self,
+        &mut self,
         alloc: Global,
         earlier: &[Change],
         change: &Change,
         keep: u32,
         batch: &mut Batch,
     ) -> Result<Entry, LayError>
-        requires counts_on { self.now.log.head.count < 18446744073709551615 }
-        requires passes { PassesBehind (self.now.log.head.count + 1) self.now.log.overlay earlier.now change.now }
-        requires laid_out { LaidOut self.now.keys self.now.log.segments batch.old.segments (placed batch.old.pieces.items) }
-        ensures laid { IfOk result (λ entry. IsLaid self.now.keys (told_behind (self.now.log.head.count + 1) self.now.log.overlay earlier.now) keep self.now.log.segments
+        requires counts_on { self.old.log.head.count < 18446744073709551615 }
+        requires passes { PassesBehind (self.old.log.head.count + 1) self.old.log.overlay earlier.now change.now }
+        requires laid_out { LaidOut self.old.keys self.old.log.segments batch.old.segments (placed batch.old.pieces.items) }
+        ensures same { self.new ≡ self.old }
+        ensures laid { IfOk result (λ entry. IsLaid self.old.keys
+            (told_behind (self.old.log.head.count + 1) self.old.log.overlay earlier.now) keep self.old.log.segments
             change.now (placed batch.old.pieces.items) batch.old.segments entry (placed batch.new.pieces.items) batch.new.segments) }
         ensures refused { (refusal : room.NoRoom) → result ≡ Err (lay.NoRoom refusal)
-            → fits batch.old.segments (space.record_of_change (store_of self.now) (told_behind (self.now.log.head.count + 1) self.now.log.overlay earlier.now) change.now) keep ≡ Err refusal }
+            → fits batch.old.segments (space.record_of_change (store_of self.old)
+            (told_behind (self.old.log.head.count + 1) self.old.log.overlay earlier.now) change.now) keep ≡ Err refusal }
     {
         match change {
             Change::Write { part, rank, bytes } => match self.owner_behind(earlier, *part) {
@@ -261,7 +268,7 @@ impl OpenLog {
 
     /// The entry of a write to an owner's chunk, whose record is sealed and placed.
     fn lay_write(
-        &self,
+        &mut self,
         alloc: Global,
         owner: &Owner,
         rank: Rank,
@@ -273,12 +280,16 @@ impl OpenLog {
         requires key { HasKey owner.now }
         requires rank { rank.0 < 262144 }
         requires short { length chunk.now ≤ 65536 }
-        requires laid_out { LaidOut self.now.keys self.now.log.segments batch.old.segments (placed batch.old.pieces.items) }
-        ensures laid { IfOk result (λ entry. (state : State) (s : Sealing) → sealing_in state owner.now.part.0 ≡ Some s → IsOwner owner.now.part s owner.now
-            → IsLaid self.now.keys state keep self.now.log.segments (Write owner.now.part rank chunk.now) (placed batch.old.pieces.items) batch.old.segments entry (placed batch.new.pieces.items) batch.new.segments) }
-        ensures refused { (refusal : room.NoRoom) → result ≡ Err (lay.NoRoom refusal) → place_in batch.old.segments (space.record_length owner.now.suite (length chunk.now)) keep ≡ Err refusal }
+        requires laid_out { LaidOut self.old.keys self.old.log.segments batch.old.segments (placed batch.old.pieces.items) }
+        ensures same { self.new ≡ self.old }
+        ensures laid { IfOk result (λ entry. (state : State) (s : Sealing) → sealing_in state owner.now.part.0 ≡ Some s
+            → IsOwner owner.now.part s owner.now
+            → IsLaid self.old.keys state keep self.old.log.segments (Write owner.now.part rank chunk.now)
+            (placed batch.old.pieces.items) batch.old.segments entry (placed batch.new.pieces.items) batch.new.segments) }
+        ensures refused { (refusal : room.NoRoom) → result ≡ Err (lay.NoRoom refusal)
+            → place_in batch.old.segments (space.record_length owner.now.suite (length chunk.now)) keep ≡ Err refusal }
     {
-        let record = seal_bytes(alloc, &self.keys, owner, rank, chunk)?;
+        let record = seal_bytes(alloc, &mut self.keys, owner, rank, chunk)?;
         let piece = match batch.lay(record, keep) {
             Ok(piece) => piece,
             Err(error) => return Err(error),

@@ -14,67 +14,75 @@ ghost use Rattle.tdb_overlay.specs.Keys.{partition_key};
 ghost use Rattle.tdb_overlay.specs.Reading.{OnlyReads};
 ghost use Rattle.tdb_chunk.specs.Reading.{HasReadWhole, HasShown, IsDamageOf, IsLate, name_of};
 
-use crate::open_log::OpenLog;
 use std::alloc::Global;
 use tdb_base::{PartId, Piece, Rank};
 use tdb_model::ReadError;
-use tdb_overlay::{FetchError, Leader, fetch};
+use tdb_overlay::{FetchError, Keys, Leader, fetch};
 use tdb_platform::Platform;
-use tdb_seal::{Name, SealError, read_record};
+use tdb_seal::{Name, SealError};
 
 const CHUNK: u32 = 1;
 
-impl OpenLog {
-    /// Reads the record of a chunk.
-    pub(crate) fn read_chunk<P: Platform>(
-        &self,
-        alloc: Global,
-        platform: &mut P,
-        leader: &Leader,
-        rank: Rank,
-        piece: &Piece,
-    ) -> Result<Vec<u8>, ReadError>
-        ensures reads { OnlyReads P.outside P.crash_states platform.old platform.new }
-        ensures settled { IsSettled P.outside P.crash_states platform.old → IsSettled P.outside P.crash_states platform.new }
-        ensures bytes { IsTrue (P.outside platform.old).tells → IsUnforged (P.outside platform.new).trace (commit_of (commit_key_of self.now.keys)) → (sealed plain : List ℕ) → in_trace (P.outside platform.old).trace.written piece.now sealed
-            → IsSealedRecord (partition_key self.now.keys leader.now.home leader.now.birth) (name_of leader.now rank.0) plain sealed → IfOk result (λ bytes. bytes.items ≡ plain) }
-        ensures form { IsTrue (P.outside platform.old).tells → IsUnforged (P.outside platform.new).trace (commit_of (commit_key_of self.now.keys)) → (sealed plain : List ℕ) → in_trace (P.outside platform.old).trace.written piece.now sealed
-            → IsSealedRecord (partition_key self.now.keys leader.now.home leader.now.birth) (name_of leader.now rank.0) plain sealed → (place : Place) → result ≢ Err (answers.Form place) }
-        ensures tampered { (damage : Damage) → result ≡ Err (answers.Tampered damage) → IsDamageOf piece.now (P.outside platform.old) (P.outside platform.new) damage }
-        ensures fault { result ≡ Err answers.Fault → Rose (P.outside platform.old).faults (P.outside platform.new).faults }
-        ensures once { IsTrue (P.outside platform.old).tells
-            → IfOk result (λ bytes. HasReadWhole piece.now (P.outside platform.old) (P.outside platform.new)) }
-        ensures damaged_once { (damage : Damage) → result ≡ Err (answers.Tampered damage) → IsTrue (P.outside platform.old).tells → HasReadWhole piece.now (P.outside platform.old) (P.outside platform.new) }
-        ensures failed { result ≡ Err answers.Fault → IsTrue (P.outside platform.old).tells → (P.outside platform.new).trace ≡ (P.outside platform.old).trace }
-        ensures at_most_once { IsTrue (P.outside platform.old).tells
-            → IfErr result (λ error. ((P.outside platform.new).trace ≡ (P.outside platform.old).trace) ⊎ HasReadWhole piece.now (P.outside platform.old) (P.outside platform.new)) }
-        // what was shown with the piece's digest, in a read that gave the chunk and in one of bytes outside the format
-        ensures shown { IsTrue (P.outside platform.old).tells
-            → IfOk result (λ bytes. HasShown piece.now (P.outside platform.old) (P.outside platform.new) (λ shown. Unit {0})) }
-        ensures misshapen { (place : Place) → result ≡ Err (answers.Form place) → (place ≡ piece.now.place)
-            × (IsTrue (P.outside platform.old).tells → HasShown piece.now (P.outside platform.old) (P.outside platform.new) (λ shown. (plain : List ℕ)
-            → IsSealedRecord (partition_key self.now.keys leader.now.home leader.now.birth) (name_of leader.now rank.0) plain shown → ⊥)) }
-        ensures stands { IsTrue (P.outside platform.old).honest → StandsIn (P.outside platform.old).image piece.now → (damage : Damage) → result ≢ Err (answers.Tampered damage) }
-        ensures quiet { result ≢ Err answers.Fault → (P.outside platform.new).faults ≡ (P.outside platform.old).faults }
-        ensures late { IfErr result IsLate }
-    {
-        let bytes = match fetch(alloc, platform, piece) {
-            Ok(bytes) => bytes,
-            Err(FetchError::Tampered(damage)) => return Err(ReadError::Tampered(damage)),
-            Err(FetchError::Fault) => return Err(ReadError::Fault),
-            Err(FetchError::Memory) => return Err(ReadError::Memory),
-        };
-        let key = self.keys.partition(PartId(leader.home), leader.birth);
-        let name = Name {
-            kind: CHUNK,
-            suite: leader.suite,
-            home: leader.home,
-            rank: rank.0,
-        };
-        match read_record(alloc, &key, &name, &bytes) {
-            Ok(plain) => Ok(plain),
-            Err(SealError::Form) => Err(ReadError::Form { place: piece.place }),
-            Err(SealError::Memory) => Err(ReadError::Memory),
-        }
+/// Reads the record of a chunk.
+pub(crate) fn read_chunk<P: Platform>(
+    alloc: Global,
+    platform: &mut P,
+    keys: &mut Keys,
+    part: PartId,
+    leader: &Leader,
+    rank: Rank,
+    piece: &Piece,
+) -> Result<Vec<u8>, ReadError>
+    ensures same { keys.new ≡ keys.old }
+    ensures reads { OnlyReads P.outside P.crash_states platform.old platform.new }
+    ensures settled { IsSettled P.outside P.crash_states platform.old → IsSettled P.outside P.crash_states platform.new }
+    ensures bytes { IsTrue (P.outside platform.old).tells → IsUnforged (P.outside platform.new).trace (commit_of (commit_key_of keys.old))
+        → (sealed plain : List ℕ) → in_trace (P.outside platform.old).trace.written piece.now sealed
+        → IsSealedRecord (partition_key keys.old leader.now.home leader.now.birth) (name_of leader.now rank.0) plain sealed
+        → IfOk result (λ bytes. bytes.items ≡ plain) }
+    ensures form { IsTrue (P.outside platform.old).tells → IsUnforged (P.outside platform.new).trace (commit_of (commit_key_of keys.old))
+        → (sealed plain : List ℕ) → in_trace (P.outside platform.old).trace.written piece.now sealed
+        → IsSealedRecord (partition_key keys.old leader.now.home leader.now.birth) (name_of leader.now rank.0) plain sealed
+        → (place : Place) → result ≢ Err (answers.Form place) }
+    ensures tampered { (damage : Damage) → result ≡ Err (answers.Tampered damage)
+        → IsDamageOf piece.now (P.outside platform.old) (P.outside platform.new) damage }
+    ensures fault { result ≡ Err answers.Fault → Rose (P.outside platform.old).faults (P.outside platform.new).faults }
+    ensures once { IsTrue (P.outside platform.old).tells
+        → IfOk result (λ bytes. HasReadWhole piece.now (P.outside platform.old) (P.outside platform.new)) }
+    ensures damaged_once { (damage : Damage) → result ≡ Err (answers.Tampered damage) → IsTrue (P.outside platform.old).tells
+        → HasReadWhole piece.now (P.outside platform.old) (P.outside platform.new) }
+    ensures failed { result ≡ Err answers.Fault → IsTrue (P.outside platform.old).tells
+        → (P.outside platform.new).trace ≡ (P.outside platform.old).trace }
+    ensures at_most_once { IsTrue (P.outside platform.old).tells
+        → IfErr result (λ error. ((P.outside platform.new).trace ≡ (P.outside platform.old).trace)
+        ⊎ HasReadWhole piece.now (P.outside platform.old) (P.outside platform.new)) }
+    // what was shown with the piece's digest, in a read that gave the chunk and in one of bytes outside the format
+    ensures shown { IsTrue (P.outside platform.old).tells
+        → IfOk result (λ bytes. HasShown piece.now (P.outside platform.old) (P.outside platform.new) (λ shown. Unit {0})) }
+    ensures misshapen { (place : Place) → result ≡ Err (answers.Form place) → (place ≡ piece.now.place)
+        × (IsTrue (P.outside platform.old).tells
+        → HasShown piece.now (P.outside platform.old) (P.outside platform.new) (λ shown. (plain : List ℕ)
+        → IsSealedRecord (partition_key keys.old leader.now.home leader.now.birth) (name_of leader.now rank.0) plain shown → ⊥)) }
+    ensures stands { IsTrue (P.outside platform.old).honest → StandsIn (P.outside platform.old).image piece.now → (damage : Damage)
+        → result ≢ Err (answers.Tampered damage) }
+    ensures quiet { result ≢ Err answers.Fault → (P.outside platform.new).faults ≡ (P.outside platform.old).faults }
+    ensures late { IfErr result IsLate }
+{
+    let bytes = match fetch(alloc, platform, piece) {
+        Ok(bytes) => bytes,
+        Err(FetchError::Tampered(damage)) => return Err(ReadError::Tampered(damage)),
+        Err(FetchError::Fault) => return Err(ReadError::Fault),
+        Err(FetchError::Memory) => return Err(ReadError::Memory),
+    };
+    let name = Name {
+        kind: CHUNK,
+        suite: leader.suite,
+        home: leader.home,
+        rank: rank.0,
+    };
+    match keys.read_chunk(alloc, part, leader.birth, &name, &bytes) {
+        Ok(plain) => Ok(plain),
+        Err(SealError::Form) => Err(ReadError::Form { place: piece.place }),
+        Err(SealError::Memory) => Err(ReadError::Memory),
     }
 }

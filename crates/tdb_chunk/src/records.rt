@@ -15,7 +15,7 @@ use tdb_base::Suite;
 use tdb_list::{Entry, write_list};
 use tdb_node::{Table, write_table};
 use tdb_overlay::Keys;
-use tdb_seal::{Name, seal_record};
+use tdb_seal::Name;
 
 const TABLE: u32 = 4;
 
@@ -42,7 +42,7 @@ pub(crate) fn seal_table(
         home: 0,
         rank: 0,
     };
-    seal_record(alloc, keys.system(), &name, &table)
+    keys.seal_system(alloc, &name, &table)
 }
 
 /// Seals a list of changes in the suite of its store.
@@ -65,5 +65,5 @@ pub(crate) fn seal_list(
         home: 0,
         rank: 0,
     };
-    seal_record(alloc, keys.system(), &name, &list)
+    keys.seal_system(alloc, &name, &list)
 }

@@ -40,7 +40,8 @@ impl<P: Platform> Model for Store<P> {
 
     ghost view = { λ s. record { platform = s.platform; secret = s.chain.keys; log = s.chain.log; stopped = s.stopped } };
 
-    ghost invariant = { λ s. IsReady P.outside P.crash_states (record { platform = s.platform; secret = s.chain.keys; log = s.chain.log; stopped = s.stopped }) };
+    ghost invariant = { λ s. IsReady P.outside P.crash_states
+        (record { platform = s.platform; secret = s.chain.keys; log = s.chain.log; stopped = s.stopped }) };
 }
 
 impl<P: Platform> Store<P> {

@@ -6,6 +6,7 @@ ghost use Rattle.std.specs.Prelude.{◌≡◌, ◌≢◌, IfErr};
 ghost use Rattle.tdb_model.specs.declared.error.CommitError.TheVariants as refusals;
 ghost use Rattle.tdb_chunk.specs.CommitFacts.{stops};
 
+use crate::reading::read_chunk;
 use crate::store::Store;
 use std::alloc::{AllocError, Global};
 use tdb_base::{PartId, Rank};
@@ -38,8 +39,15 @@ impl<P: Platform> Chunks for Store<P> {
         let Seen::Here(piece) = self.chain.log.overlay.get(part, rank) else {
             return Err(ReadError::NoChunk);
         };
-        self.chain
-            .read_chunk(alloc, &mut self.platform, &leader, rank, &piece)
+        read_chunk(
+            alloc,
+            &mut self.platform,
+            &mut self.chain.keys,
+            part,
+            &leader,
+            rank,
+            &piece,
+        )
     }
 
     // A fault stops it. What is refused otherwise leaves all.

@@ -82,7 +82,7 @@ fn lay_log<P: Platform>(
     if count != 0 {
         return Err(FormatError::AlreadyFormatted { count });
     }
-    match OpenLog::format(alloc, platform, Keys::new(secret), suite, segments) {
+    match OpenLog::format(alloc, platform, Keys::new(alloc, secret), suite, segments) {
         Ok(_) => Ok(()),
         Err(StoreError::Memory) => Err(FormatError::Memory),
         Err(StoreError::Fault) => Err(FormatError::Fault),
@@ -128,7 +128,8 @@ impl<P: Platform> Store<P> {
         ensures settled { IfOk result (IsSettled P.outside P.crash_states) }
         // nothing is read from the device, and only sealed records and texts go to it
         ensures unread { IfOk result (λ p. IsTrue (P.outside platform).tells → (P.outside p).trace.read ≡ (P.outside platform).trace.read) }
-        ensures unread_err { IfErr result (λ e. IsTrue (P.outside platform).tells → (P.outside e.0).trace.read ≡ (P.outside platform).trace.read) }
+        ensures unread_err { IfErr result (λ e. IsTrue (P.outside platform).tells
+            → (P.outside e.0).trace.read ≡ (P.outside platform).trace.read) }
         ensures sealed { IfOk result (λ p. OnlySealed secret.now (P.outside platform) (P.outside p)) }
         ensures texts { IfOk result (λ p. WritesFirstText secret.now (P.outside platform) (P.outside p)) }
         ensures texts_err { IfErr result (λ e. WritesFirstText secret.now (P.outside platform) (P.outside e.0)) }

@@ -31,15 +31,18 @@ pub(crate) fn put_commit<P: Platform>(
     requires in_format { IsInFormat commit.now }
     requires in_segments { All FitsOneSegment (placed pieces.now) }
     requires apart { AllPairs IsApart (placed pieces.now) }
-    ensures puts { Puts P.outside P.crash_states platform.old platform.new (placed pieces.now ++ text_in_slot keys.now commit.now ∷ []) (anchor_of keys.now commit.now) result }
-    ensures advanced { IsTrue (P.outside platform.old).tells → OnOk result ((P.outside platform.new).anchor ≡ anchor_of keys.now commit.now) }
+    ensures puts { Puts P.outside P.crash_states platform.old platform.new (placed pieces.now ++ text_in_slot keys.now commit.now ∷ [])
+        (anchor_of keys.now commit.now) result }
+    ensures advanced { IsTrue (P.outside platform.old).tells
+        → OnOk result ((P.outside platform.new).anchor ≡ anchor_of keys.now commit.now) }
     ensures only { IsTrue (P.outside platform.old).tells
         → OnOk result ((i : List ℕ) (a : Anchor) → now P.outside P.crash_states platform.new i a → a ≡ anchor_of keys.now commit.now) }
     ensures head { IfOk result (λ next. next ≡ next_head keys.now head.now commit.now) }
     ensures reads { commit_of (commit_key_of keys.now) (text_of keys.now commit.now) ≡ Some commit.now }
     ensures told { Told (P.outside platform.old) (P.outside platform.new) result }
     ensures quiet { OnOk result ((P.outside platform.new).faults ≡ (P.outside platform.old).faults) }
-    ensures sealed { All (λ p. IsRecord keys.now p.bytes) (placed pieces.now) → OnlySealed keys.now (P.outside platform.old) (P.outside platform.new) }
+    ensures sealed { All (λ p. IsRecord keys.now p.bytes) (placed pieces.now)
+        → OnlySealed keys.now (P.outside platform.old) (P.outside platform.new) }
     ensures steps { All (λ p. IsRecord keys.now p.bytes) (placed pieces.now)
         → IsPutStep P.outside P.crash_states keys.now commit.now (placed pieces.now) platform.old platform.new result }
 {

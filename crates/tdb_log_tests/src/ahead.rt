@@ -17,7 +17,7 @@ fn opened(alloc: Global, image: Vec<u8>, anchor: (u64, Digest)) -> Result<((u64,
     let (count, mark) = anchor;
     let fail = Vec::new(alloc);
     let mut platform = MemoryPlatform::new(alloc, image, count, mark.0, fail, None)?;
-    let log = recover(alloc, &mut platform, &Keys::new(&SECRET))?;
+    let log = recover(alloc, &mut platform, &Keys::new(alloc, &SECRET))?;
     let reads = platform.reads();
     let (count, _) = platform.anchor()?;
     Ok(((log.head.count, count), reads))
@@ -34,7 +34,7 @@ fn a_commit_behind_the_anchor_is_taken(rt: HostRuntime) -> Result<(), Fail> {
     let (count, mark) = second()?;
     let fail = Vec::new(alloc);
     let mut platform = MemoryPlatform::new(alloc, first_path(alloc)?, count, mark.0, fail, None)?;
-    let log = recover(alloc, &mut platform, &Keys::new(&SECRET))?;
+    let log = recover(alloc, &mut platform, &Keys::new(alloc, &SECRET))?;
     assert_eq!(rt; (log.head.count, log.head.base), (3, 1));
     assert_eq!(rt; log.head.mark, Digest(MARK));
     assert_eq!(rt; log.segments.tail(), Some(Place(263_133)));
@@ -146,7 +146,7 @@ fn each_fault_ahead_of_the_log_is_told(rt: HostRuntime) -> Result<(), Fail> {
             fail,
             None,
         )?;
-        let opened = recover(alloc, &mut platform, &Keys::new(&SECRET));
+        let opened = recover(alloc, &mut platform, &Keys::new(alloc, &SECRET));
         assert!(rt; opened.is_err(), "call {call}");
     }
     Ok(())
@@ -155,7 +155,7 @@ fn each_fault_ahead_of_the_log_is_told(rt: HostRuntime) -> Result<(), Fail> {
 #[test]
 fn nothing_is_asked_for_where_no_commit_may_follow(rt: HostRuntime) -> Result<(), Fail> {
     let alloc = rt.alloc();
-    let keys = Keys::new(&SECRET);
+    let keys = Keys::new(alloc, &SECRET);
     let fail = Vec::new(alloc);
     let mut platform = MemoryPlatform::new(alloc, first_path(alloc)?, 3, MARK, fail, None)?;
     let mut log = read_log(alloc, &mut platform, &keys)?;

@@ -44,7 +44,13 @@ fn the_first_path_has_the_marks_of_the_model(rt: HostRuntime) -> Result<(), Fail
     let mut platform = device(alloc, &[])?;
     let (count, _) = platform.anchor()?;
     assert_eq!(rt; count, 0);
-    let mut store = OpenLog::format(alloc, &mut platform, Keys::new(&[0; 32]), Suite::Plain, 16)?;
+    let mut store = OpenLog::format(
+        alloc,
+        &mut platform,
+        Keys::new(alloc, &[0; 32]),
+        Suite::Plain,
+        16,
+    )?;
     assert_eq!(rt; platform.anchor()?.1.as_slice(), MARKS[0]);
     let makes = [make(FIRST, Suite::Plain), make(PartId(2), Suite::Plain)];
     store.commit(alloc, &mut platform, &makes)?;
@@ -70,7 +76,13 @@ fn a_copy_has_what_the_commit_wrote_before_it(rt: HostRuntime) -> Result<(), Fai
     let mut platform = device(alloc, &[])?;
     let (count, _) = platform.anchor()?;
     assert_eq!(rt; count, 0);
-    let mut store = OpenLog::format(alloc, &mut platform, Keys::new(&[0; 32]), Suite::Aes128, 16)?;
+    let mut store = OpenLog::format(
+        alloc,
+        &mut platform,
+        Keys::new(alloc, &[0; 32]),
+        Suite::Aes128,
+        16,
+    )?;
     let (part, rank, copy) = (PartId(3), Rank(0), PartId(4));
     let bytes = Bytes::from(NOTE.to_vec(alloc)?);
     let changes = [
@@ -101,7 +113,7 @@ fn a_largest_chunk_is_written_and_read(rt: HostRuntime) -> Result<(), Fail> {
     let mut store = OpenLog::format(
         alloc,
         &mut platform,
-        Keys::new(&[0; 32]),
+        Keys::new(alloc, &[0; 32]),
         Suite::Plain,
         4_096,
     )?;

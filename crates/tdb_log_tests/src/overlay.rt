@@ -5,10 +5,11 @@ ghost use Rattle.tdb_overlay.specs.Reserving.{IsReserved};
 
 use std::alloc::{AllocError, Global};
 use std::test::Fail;
-use tdb_base::{Damage, Digest, PartId, Piece, Place, Rank, Suite};
+use tdb_base::{Damage, Digest, Key, PartId, Piece, Place, Rank, Suite};
 use tdb_list::Entry;
 use tdb_overlay::{FetchError, Keys, Leader, Overlay, Reserved, Seen, fetch, fetch_text};
 use tdb_platform::MemoryPlatform;
+use tdb_seal::{Name, seal_record};
 
 const NOWHERE: Piece = Piece {
     place: Place(0),
@@ -37,30 +38,76 @@ const OF_256_ZEROS: Digest = Digest([
     0x16, 0x94, 0x21, 0xec, 0x9b, 0xdd, 0x9f, 0x1a, 0x56, 0x48, 0xf7, 0x5a, 0xde, 0x00, 0x5a, 0xf1,
 ]);
 
-#[test]
-fn keys_are_tags_under_the_secret(rt: HostRuntime) {
+// HMAC-SHA-256 of the labels TDBsystm and TDBpartn and of two numbers, by another implementation. The secret is the bytes
+// from 0 to 31, and the partition is that of home 3 and birth 7.
+const SYSTEM_KEY: Key = Key([
+    0x29, 0x6a, 0x8c, 0x37, 0x2b, 0x2f, 0xca, 0x64, 0x74, 0x79, 0x13, 0x01, 0xb7, 0xe1, 0x58, 0xbe,
+    0x21, 0xb5, 0x3f, 0x84, 0x14, 0x70, 0x28, 0x97, 0xd9, 0x07, 0x96, 0x8d, 0x0a, 0x87, 0x6e, 0x3c,
+]);
+
+const PARTITION_KEY: Key = Key([
+    0xf0, 0x79, 0x4a, 0x9f, 0x63, 0xb3, 0xc3, 0x07, 0x00, 0x4b, 0x85, 0x54, 0x42, 0xd3, 0x28, 0x54,
+    0x71, 0x5b, 0xf6, 0xc5, 0x56, 0x63, 0x1e, 0x46, 0x00, 0x9d, 0x3b, 0x85, 0xf0, 0x9f, 0x7f, 0x37,
+]);
+
+fn keys_of_counting_bytes(alloc: Global) -> Keys {
     let mut secret = [0; 32];
     for (at, byte) in secret.iter_mut().enumerate() {
         *byte = at as u8;
     }
-    let keys = Keys::new(&secret);
-    // HMAC-SHA-256 of the labels TDBsystm and TDBpartn and of two numbers, by another implementation
-    assert!(rt;
-        keys.system().0
-            == [
-                0x29, 0x6a, 0x8c, 0x37, 0x2b, 0x2f, 0xca, 0x64, 0x74, 0x79, 0x13, 0x01, 0xb7, 0xe1,
-                0x58, 0xbe, 0x21, 0xb5, 0x3f, 0x84, 0x14, 0x70, 0x28, 0x97, 0xd9, 0x07, 0x96, 0x8d,
-                0x0a, 0x87, 0x6e, 0x3c,
-            ]
-    );
-    assert!(rt;
-        keys.partition(PartId(3), 7).0
-            == [
-                0xf0, 0x79, 0x4a, 0x9f, 0x63, 0xb3, 0xc3, 0x07, 0x00, 0x4b, 0x85, 0x54, 0x42, 0xd3,
-                0x28, 0x54, 0x71, 0x5b, 0xf6, 0xc5, 0x56, 0x63, 0x1e, 0x46, 0x00, 0x9d, 0x3b, 0x85,
-                0xf0, 0x9f, 0x7f, 0x37,
-            ]
-    );
+    Keys::new(alloc, &secret)
+}
+
+fn name_of(kind: u32, suite: Suite, home: u32) -> Name {
+    Name {
+        kind,
+        suite,
+        home,
+        rank: 0,
+    }
+}
+
+#[test]
+fn records_are_sealed_under_tags_of_the_secret(rt: HostRuntime) -> Result<(), Fail> {
+    let alloc = rt.alloc();
+    let mut keys = keys_of_counting_bytes(alloc);
+    for suite in [Suite::Plain, Suite::Aes128, Suite::Aes256] {
+        let name = name_of(5, suite, 0);
+        let sealed = keys.seal_system(alloc, &name, b"list")?;
+        assert!(rt; sealed == seal_record(alloc, &SYSTEM_KEY, &name, b"list")?);
+        let name = name_of(1, suite, 3);
+        let due = seal_record(alloc, &PARTITION_KEY, &name, b"chunk")?;
+        // derived, and then as it was kept
+        for _ in 0..2 {
+            assert!(rt; keys.seal_chunk(alloc, PartId(3), 7, &name, b"chunk")? == due);
+            assert!(rt;
+                keys.read_chunk(alloc, PartId(3), 7, &name, &due)?
+                    .as_slice()
+                    == b"chunk".as_slice()
+            );
+        }
+    }
+    Ok(())
+}
+
+#[test]
+fn a_key_of_an_earlier_partition_of_the_number_isnt_used(rt: HostRuntime) -> Result<(), Fail> {
+    let alloc = rt.alloc();
+    let mut keys = keys_of_counting_bytes(alloc);
+    let name = name_of(1, Suite::Aes128, 3);
+    let due = seal_record(alloc, &PARTITION_KEY, &name, b"chunk")?;
+    for (birth, is_of_it) in [(6, false), (7, true), (8, false), (7, true)] {
+        assert_eq!(rt;
+            keys.seal_chunk(alloc, PartId(3), birth, &name, b"chunk")? == due,
+            is_of_it
+        );
+        assert_eq!(rt;
+            keys.read_chunk(alloc, PartId(3), birth, &name, &due)
+                .is_ok(),
+            is_of_it
+        );
+    }
+    Ok(())
 }
 
 fn entry_of(kind: u32, part: u32, rank: u32) -> Entry {

@@ -8,7 +8,7 @@ use tdb_mark::{Commit, commit_key, mark, read_commit, write_commit};
 use tdb_overlay::{Keys, Leader, Recovered, Seen};
 use tdb_platform::MemoryPlatform;
 use tdb_recover::{OpenError, recover};
-use tdb_seal::{Name, seal_record};
+use tdb_seal::Name;
 
 pub(crate) const SECRET: [u8; 32] = [0; 32];
 
@@ -76,7 +76,7 @@ fn open(
         failing.to_vec(alloc)?,
         None,
     )?;
-    recover(alloc, &mut platform, &Keys::new(&SECRET))
+    recover(alloc, &mut platform, &Keys::new(alloc, &SECRET))
 }
 
 /// The commit that a text says.
@@ -309,7 +309,7 @@ fn a_text_under_another_key_is_no_log(rt: HostRuntime) -> Result<(), Fail> {
     let alloc = rt.alloc();
     let image = first_path(alloc)?;
     let mut platform = MemoryPlatform::new(alloc, image, 3, MARK, Vec::new(alloc), None)?;
-    let Err(error) = recover(alloc, &mut platform, &Keys::new(&[1; 32])) else {
+    let Err(error) = recover(alloc, &mut platform, &Keys::new(alloc, &[1; 32])) else {
         assert!(rt; false);
         return Ok(());
     };
@@ -404,7 +404,7 @@ fn a_list_that_names_a_record_outside_is_no_log(rt: HostRuntime) -> Result<(), F
     if plain.len() > 100 {
         return Ok(());
     }
-    let list = seal_record(alloc, Keys::new(&SECRET).system(), &name, plain.as_slice())?;
+    let list = Keys::new(alloc, &SECRET).seal_system(alloc, &name, plain.as_slice())?;
     let piece = Piece {
         place: Place(263_168),
         length: 136,

@@ -70,7 +70,13 @@ fn a_store_is_opened_behind_its_commits(rt: HostRuntime) -> Result<(), Fail> {
     let mut platform = MemoryPlatform::new(alloc, image, 0, [0; 32], fail, None)?;
     let (count, _) = platform.anchor()?;
     assert_eq!(rt; count, 0);
-    OpenLog::format(alloc, &mut platform, Keys::new(&[0; 32]), Suite::Aes256, 16)?;
+    OpenLog::format(
+        alloc,
+        &mut platform,
+        Keys::new(alloc, &[0; 32]),
+        Suite::Aes256,
+        16,
+    )?;
     let mut store = opened(alloc, platform)?;
     commit(&mut store, alloc, make())?;
     commit(&mut store, alloc, write(alloc, HELLO)?)?;

@@ -9,12 +9,13 @@ use Rattle.tdb_platform.specs.CrashStates.{CrashStates, Elapses, now}
 use Rattle.tdb_overlay.specs.Found.{Store}
 use Rattle.tdb_overlay.specs.Growth.{IsSettled}
 use Rattle.tdb_overlay.specs.Images.{IsIntactIn}
-use Rattle.tdb_overlay.specs.Ran.{FromLeft, Leads, RanOn, RanStep}
+use Rattle.tdb_overlay.specs.Ran.{CountsOn, FromLeft, Leads, RanOn, RanStep}
 use Rattle.tdb_overlay.specs.SealedOnly.{WritesOnlySealed}
 use Rattle.tdb_overlay.specs.Sound.{IsSound}
 use Rattle.tdb_overlay.specs.WellFormedLog.{IsAnchored, IsWellFormedTrace}
 use Rattle.tdb_overlay.proofs.RanLaws.{from_itself, leads_part, sound_earlier, still_anchored, still_leads}
 use Rattle.tdb_overlay.proofs.SealedPuts.{sealed_none}
+use Rattle.tdb_overlay.proofs.TextsRan.{writes_none}
 
 module _ {D : Type 0} (outside : D → Outside) (crash_states : D → CrashStates)
     (counts : (p : D) (t u : ℕ) (i : List ℕ) (a : Anchor) → t ≤ u → u ≤ (outside p).clock → crash_states p u i a → crash_states p t i a)
@@ -23,6 +24,7 @@ module _ {D : Type 0} (outside : D → Outside) (crash_states : D → CrashState
     (leads : IsSound store.secret (outside old)
     → Leads store (outside old).trace.written (outside old).trace.written added [] (outside old).anchor next)
     (named : IsSound store.secret (outside old) → IsAnchored (outside old).trace.written store.secret next)
+    (more : IsSound store.secret (outside old) → CountsOn store (outside old).trace.written (outside old).anchor next)
     (stand : IsSound store.secret (outside old) → IsTrue (outside old).honest → (i : List ℕ)
     → now outside crash_states old i (outside old).anchor → IsIntactIn i (outside old).trace.written store (outside old).anchor
     → IsIntactIn i (outside old).trace.written store next)
@@ -58,6 +60,9 @@ module _ {D : Type 0} (outside : D → Outside) (crash_states : D → CrashState
       next_anchored a is = subst (IsAnchored after store.secret) (sym is)
           (subst (λ (ws : List WrittenPiece). IsAnchored ws store.secret next) same (named was_sound))
 
+      next_counts : (a : Anchor) → a ≡ next → CountsOn store before head a
+      next_counts a is = subst (λ (b : Anchor). CountsOn store before head b) (sym is) (more was_sound)
+
       next_from : (i : List ℕ) (a was : Anchor) → now outside crash_states old i was → a ≡ next
           → FromLeft outside crash_states store old new added [] i a
       next_from i a was left is =
@@ -68,6 +73,7 @@ module _ {D : Type 0} (outside : D → Outside) (crash_states : D → CrashState
             left = left;
             leads = subst (λ (b : Anchor). Leads store before after added [] b a) (sym at) (next_leads a is);
             anchored = λ _. next_anchored a is;
+            counts = subst (λ (b : Anchor). CountsOn store before b a) (sym at) (next_counts a is);
             spares = λ honest intact.
                 subst (λ (b : Anchor). IsIntactIn i after store b) (sym is)
                 (subst (λ (ws : List WrittenPiece). IsIntactIn i ws store next) same
@@ -81,7 +87,7 @@ module _ {D : Type 0} (outside : D → Outside) (crash_states : D → CrashState
 
       next_begun : (i : List ℕ) (a : Anchor) → FromLeft outside crash_states store old new added [] i a
           → FromLeft outside crash_states store old new [] added i a
-      next_begun i a f = record { image = f.image; anchor = f.anchor; left = f.left; leads = begun_part f.anchor a f.leads; anchored = f.anchored; spares = f.spares }
+      next_begun i a f = record { image = f.image; anchor = f.anchor; left = f.left; leads = begun_part f.anchor a f.leads; anchored = f.anchored; counts = f.counts; spares = f.spares }
 
       old_stays : (i : List ℕ) (a : Anchor) → now outside crash_states old i a → FromLeft outside crash_states store old new [] added i a
       old_stays i a left = from_itself outside crash_states counts numbered store old new (grows was_sound.tells) added i a left
@@ -98,15 +104,18 @@ module _ {D : Type 0} (outside : D → Outside) (crash_states : D → CrashState
         → IsAnchored after store.secret (outside new).anchor)
         → (IsSound store.secret (outside new) → (i : List ℕ) (a : Anchor) → now outside crash_states new i a
         → FromLeft outside crash_states store old new surely maybe i a)
+        → (IsSound store.secret (outside new) → CountsOn store before head (outside new).anchor)
         → RanOn outside crash_states store old surely maybe new
-    ran_by surely maybe all led anchored left = record {
+    ran_by surely maybe all led anchored left counted = record {
       tells = told.tells;
       honest = told.honest;
       grows = grows;
       faults = told.no_fewer_faults;
       sealed = λ tells. subst (WritesOnlySealed store.secret (outside old).trace) (sym (trace tells))
           (sealed_none store.secret (outside old).trace);
-      formed = λ sound kept. subst (λ (ws : List WrittenPiece). IsWellFormedTrace ws store.secret) (same sound) kept.anchor.trace;
+      formed = λ sound kept. subst (λ (ws : List WrittenPiece). IsWellFormedTrace ws store.secret) (same sound) kept.trace;
+      texts = λ sound. writes_none outside crash_states store old new (surely ++ maybe) (sym (same sound));
+      counts = counted;
       leads = led;
       anchored = anchored;
       left = left;
@@ -135,6 +144,9 @@ module _ {D : Type 0} (outside : D → Outside) (crash_states : D → CrashState
         (still_anchored store (outside old).trace (outside new).trace (grows (was_sound sound).tells) head was))
         (λ is. next_anchored sound (outside new).anchor is) (anchor (was_sound sound).tells))
         (λ sound i a here. either sound i a (pairs i a here))
+        (λ sound. ⊎_elim
+        (λ stays. λ was from log. let e = ap (λ (b : Anchor). b.0) stays in omega (arith, e))
+        (λ is. next_counts sound (outside new).anchor is) (anchor (was_sound sound).tells))
 
     made : (IsTrue (outside old).tells → (outside new).anchor ≡ next)
         → (IsTrue (outside old).tells → (i : List ℕ) (a : Anchor) → now outside crash_states new i a → a ≡ next)
@@ -143,6 +155,7 @@ module _ {D : Type 0} (outside : D → Outside) (crash_states : D → CrashState
         (λ sound. next_leads sound (outside new).anchor (advanced (was_sound sound).tells))
         (λ sound was. next_anchored sound (outside new).anchor (advanced (was_sound sound).tells))
         (λ sound i a here. let left = pairs i a here in next_from sound i a left.0 left.1 (only (was_sound sound).tells i a here))
+        (λ sound. next_counts sound (outside new).anchor (advanced (was_sound sound).tells))
 
   -- An advance to a text whose log leads on from the anchor's, and all of whose needs stand, is a step.
   pub advance_ran : {T E : Type 0} (result : Result T E) → Told (outside old) (outside new) result

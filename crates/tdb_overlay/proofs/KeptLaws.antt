@@ -187,27 +187,13 @@ module _ (store : Store) (t u : Trace) (anchor : Anchor) (text : List ℕ) (c : 
           (log_grown store t u anchor.0 c.prev.0 slot ps c before added from to laid.accepted refl
           (follows_is anchor.0 c next.count (starts next.mark)) (next.step u.written finds_all) wrote unforged (marked next.mark))
 
-  module _ (done rest : List Placed) (in_order : ps ++ slot ∷ [] ≡ done ++ rest) (wrote : u ≡ with_all_written t done)
-      (unforged : IsUnforged u (commit_of (commit_key_of store.secret)))
-      (added : History) (goes : GoesOnWith t.written store anchor c ps added) (kept : IsWellFormedLog t.written store.secret anchor) where
-    grown : Extends t u
-    grown = subst (Extends t) (sym wrote) (grows_all t done)
-
-    stays : (a : Anchor) → (a.0 ≡ 0) ⊎ NamesText t.written store.secret a → (a.0 ≡ 0) ⊎ NamesText u.written store.secret a
-    stays a (inl none) = inl none
-    stays a (inr named) = inr
-        (subst (λ (ws : List WrittenPiece). NamesText ws store.secret a) (sym grown.written)
-        (names_stays t.written grown.more_written store.secret a named))
-
-    pub whole : rest ≡ [] → u ≡ with_all_written t (ps ++ slot ∷ [])
-    whole complete = wrote ∙ ap (with_all_written t) (sym (in_order ∙ ap (λ (l : List Placed). done ++ l) complete ∙ append-nil done))
-
+  module _ (done rest : List Placed) (in_order : ps ++ slot ∷ [] ≡ done ++ rest) (wrote : u ≡ with_all_written t done) where
     record_of : (place : ℕ) (bytes : List ℕ) → IsOneOf ps place bytes → IsRecord store.secret bytes
     record_of place bytes one = one_of_all (λ at b. IsRecord store.secret b) ps place bytes
         (all_listed (λ (p : Placed). IsRecord store.secret p.bytes) ps laid.records) one
 
     -- each piece that was written is an earlier one, a record, or the text at the end of all
-    parts : (bytes : List ℕ) → WasWritten u.written bytes → WasWritten t.written bytes ⊎ IsRecord store.secret bytes
+    pub parts : (bytes : List ℕ) → WasWritten u.written bytes → WasWritten t.written bytes ⊎ IsRecord store.secret bytes
         ⊎ ((text ≡ bytes) × (rest ≡ []))
     parts bytes was = by (written_in_put t done bytes (subst (λ (v : Trace). WasWritten v.written bytes) wrote was))
       where
@@ -225,6 +211,21 @@ module _ (store : Store) (t u : Trace) (anchor : Anchor) (text : List ℕ) (c : 
             ⊎ IsRecord store.secret bytes ⊎ ((text ≡ bytes) × (rest ≡ []))
         by (inl earlier) = inl earlier
         by (inr one) = in_front one.0 one.1 (front_or_all ps done rest slot in_order)
+
+  module _ (done rest : List Placed) (in_order : ps ++ slot ∷ [] ≡ done ++ rest) (wrote : u ≡ with_all_written t done)
+      (unforged : IsUnforged u (commit_of (commit_key_of store.secret)))
+      (added : History) (goes : GoesOnWith t.written store anchor c ps added) (kept : IsWellFormedLog t.written store.secret anchor) where
+    grown : Extends t u
+    grown = subst (Extends t) (sym wrote) (grows_all t done)
+
+    stays : (a : Anchor) → (a.0 ≡ 0) ⊎ NamesText t.written store.secret a → (a.0 ≡ 0) ⊎ NamesText u.written store.secret a
+    stays a (inl none) = inl none
+    stays a (inr named) = inr
+        (subst (λ (ws : List WrittenPiece). NamesText ws store.secret a) (sym grown.written)
+        (names_stays t.written grown.more_written store.secret a named))
+
+    pub whole : rest ≡ [] → u ≡ with_all_written t (ps ++ slot ∷ [])
+    whole complete = wrote ∙ ap (with_all_written t) (sym (in_order ∙ ap (λ (l : List Placed). done ++ l) complete ∙ append-nil done))
 
     -- the text ends a log
     pub text_log : rest ≡ [] → (history : History) × (to : StoreState) × IsLog u.written store (c.count, sha256 text) history to
@@ -260,14 +261,15 @@ module _ (store : Store) (t u : Trace) (anchor : Anchor) (text : List ℕ) (c : 
         (λ is. absurd (record_is_no_text store.secret bytes d is accepted))
         (λ is. subst (λ (b : List ℕ). TextLog u.written store.secret b d (λ last. Unit {0})) is.0
         (new_text d (subst (λ (b : List ℕ). IsAccepted store.secret b d) (sym is.0) accepted) is.1)) rest_of)
-        (parts bytes was)
+        (parts done rest in_order wrote bytes was)
 
     pub each_piece : (bytes : List ℕ) → WasWritten u.written bytes → IsRecord store.secret bytes
         ⊎ ((d : Commit) × IsAccepted store.secret bytes d)
     each_piece bytes was =
         ⊎_elim (λ earlier. kept.trace.pieces bytes earlier)
         (λ rest_of. ⊎_elim (λ is. inl is)
-        (λ is. inr (c, subst (λ (b : List ℕ). IsAccepted store.secret b c) is.0 laid.accepted)) rest_of) (parts bytes was)
+        (λ is. inr (c, subst (λ (b : List ℕ). IsAccepted store.secret b c) is.0 laid.accepted)) rest_of)
+        (parts done rest in_order wrote bytes was)
 
     -- The trace stays well formed,
     pub formed : IsWellFormedTrace u.written store.secret

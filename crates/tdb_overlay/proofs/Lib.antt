@@ -23,4 +23,5 @@ pub mod RequiredLaws
 pub mod SealedPuts
 pub mod Steps
 pub mod Telling
+pub mod TextsRan
 pub mod Unmistaken

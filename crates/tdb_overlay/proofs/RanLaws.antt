@@ -1,5 +1,7 @@
 -- Runs of calls, one after another, and what each of them keeps.
 use Rattle.std.proofs.Common.{◌≡◌, inl, inr, ⊎_elim, ℕ, ◌≤◌, List, [], ◌∷◌, ◌++◌, Bool, IsTrue, refl, sym, ◌∙◌, ap, subst, append-nil, append_assoc, arith}
+use Rattle.tdb_base.specs.declared.piece.Piece.{Piece}
+use Rattle.tdb_base.specs.declared.suite.Suite.{Suite}
 use Rattle.tdb_base.specs.Trace.{Extends, IsNumbered, Trace, WrittenPiece}
 use Rattle.tdb_base.proofs.Tracing.{extends_along, extends_itself}
 use Rattle.tdb_mark.specs.CommitText.{commit_key_of, commit_of}
@@ -8,15 +10,17 @@ use Rattle.tdb_model.specs.Apply.{History}
 use Rattle.tdb_platform.specs.Outside.{Anchor, Outside}
 use Rattle.tdb_platform.specs.CrashStates.{CrashStates, LeavesOnly, Pairs, now}
 use Rattle.tdb_overlay.specs.Found.{Store}
-use Rattle.tdb_overlay.specs.Images.{IsIntactIn, IsReliable}
+use Rattle.tdb_overlay.specs.Images.{IsIntactIn, IsReliable, IsReliableUnder}
 use Rattle.tdb_overlay.specs.Log.{IsLog}
-use Rattle.tdb_overlay.specs.Ran.{FromLeft, IsFront, Leads, RanOn, StaysAnchored}
+use Rattle.tdb_overlay.specs.Ran.{EachHasLog, FromLeft, IsFront, Leads, RanOn, StaysAnchored, WritesTexts}
 use Rattle.tdb_overlay.specs.Reading.{OnlyReads}
+use Rattle.tdb_overlay.specs.Required.{IsRequired}
 use Rattle.tdb_overlay.specs.Sound.{IsSound}
 use Rattle.tdb_overlay.specs.WellFormedLog.{IsAnchored, IsKeptLog, IsWellFormedLog, IsWellFormedTrace, NamesText}
 use Rattle.tdb_overlay.proofs.ImageLaws.{intact_stays}
 use Rattle.tdb_overlay.proofs.KeptLaws.{names_stays}
 use Rattle.tdb_overlay.proofs.LogLaws.{log_stays}
+use Rattle.tdb_overlay.proofs.TextsRan.{counts_then, writes_none, writes_then, writes_wider}
 use Rattle.tdb_overlay.proofs.SealedPuts.{only_sealed_along, only_sealed_none}
 
 no_front : (front : History) → IsFront front [] → front ≡ []
@@ -117,6 +121,7 @@ module _ {D : Type 0} (outside : D → Outside) (crash_states : D → CrashState
     left = here;
     leads = still_leads store (outside old).trace (outside new).trace grows a maybe;
     anchored = still_anchored store (outside old).trace (outside new).trace grows a;
+    counts = λ before from log. omega arith;
     spares = λ honest is. still_intact store (outside old).trace (outside new).trace grows a i is;
   }
 
@@ -128,9 +133,11 @@ module _ {D : Type 0} (outside : D → Outside) (crash_states : D → CrashState
     grows = λ _. extends_itself (outside c).trace;
     faults = omega arith;
     sealed = only_sealed_none store.secret (outside c);
-    formed = λ sound kept. kept.anchor.trace;
+    formed = λ sound kept. kept.trace;
+    texts = λ sound. writes_none outside crash_states store c c [] refl;
     leads = λ sound. still_leads store (outside c).trace (outside c).trace (extends_itself (outside c).trace) (outside c).anchor [];
     anchored = λ sound is. is;
+    counts = λ sound before from log. omega arith;
     left = λ sound i a here. from_itself c c (extends_itself (outside c).trace) [] i a here;
     moments = record {
       later = omega arith;
@@ -158,7 +165,9 @@ module _ {D : Type 0} (outside : D → Outside) (crash_states : D → CrashState
         };
         formed = λ sound kept.
             subst (λ (ws : List WrittenPiece). IsWellFormedTrace ws store.secret)
-            (sym (reads.written (sound_earlier old new reads.tells reads.grows sound).tells)) kept.anchor.trace;
+            (sym (reads.written (sound_earlier old new reads.tells reads.grows sound).tells)) kept.trace;
+        texts = λ sound. writes_none outside crash_states store old new []
+            (reads.written (sound_earlier old new reads.tells reads.grows sound).tells);
         leads = λ sound.
             subst (λ (a : Anchor). Leads store (written old) (written new) [] [] (outside old).anchor a)
             (sym (reads.anchor (sound_earlier old new reads.tells reads.grows sound).tells))
@@ -167,6 +176,9 @@ module _ {D : Type 0} (outside : D → Outside) (crash_states : D → CrashState
             subst (λ (a : Anchor). IsAnchored (written new) store.secret a)
             (sym (reads.anchor (sound_earlier old new reads.tells reads.grows sound).tells))
             (still_anchored store (outside old).trace (outside new).trace (grew sound) (outside old).anchor is);
+        counts = λ sound before from log.
+            let same = ap (λ (a : Anchor). a.0) (reads.anchor (sound_earlier old new reads.tells reads.grows sound).tells) in
+            omega (arith, same);
         left = λ sound i a here.
             from_itself old new (grew sound) [] i a
             (reads.left.each i a (counts new (outside old).clock (outside new).clock i a reads.left.later (omega arith) here));
@@ -194,13 +206,18 @@ module _ {D : Type 0} (outside : D → Outside) (crash_states : D → CrashState
     keeps = λ t i a within left. then.keeps t i a (omega (arith, within, first.later)) (first.keeps t i a within left);
   }
 
-  -- What a run keeps: the trace well formed for each anchor that a stop may leave, now
+  -- What a run keeps: the trace well formed for the platform's anchor,
+  pub anchor_after : (old new : D) (xs maybe : History) → Ran old xs maybe new → IsSound store.secret (outside new)
+      → IsWellFormedLog (written old) store.secret (outside old).anchor → IsWellFormedLog (written new) store.secret (outside new).anchor
+  anchor_after old new xs maybe ran sound kept = record { trace = ran.formed sound kept; anchored = ran.anchored sound kept.anchored }
+
+  -- and for each anchor that a stop may leave, now
   pub kept_after : (old new : D) (xs maybe : History) → Ran old xs maybe new → IsSound store.secret (outside new)
       → IsKeptLog outside crash_states store.secret old → IsKeptLog outside crash_states store.secret new
   kept_after old new xs maybe ran sound kept = record {
-    anchor = record { trace = ran.formed sound kept; anchored = ran.anchored sound kept.anchor.anchored };
+    anchor = anchor_after old new xs maybe ran sound kept.anchor;
     left = λ i a here. let f = ran.left sound i a here in record {
-      trace = ran.formed sound kept;
+      trace = ran.formed sound kept.anchor;
       anchored = f.anchored
           (kept.left f.image f.anchor f.left).anchored;
     };
@@ -212,7 +229,7 @@ module _ {D : Type 0} (outside : D → Outside) (crash_states : D → CrashState
       → (i : List ℕ) (a : Anchor) → crash_states new (outside old).clock i a → IsWellFormedLog (written new) store.secret a
   kept_since old new xs maybe ran sound kept i a since =
       let f = ran.moments.each i a since sound in record {
-        trace = ran.formed sound kept;
+        trace = ran.formed sound kept.anchor;
         anchored = f.anchored
             (kept.left f.image f.anchor f.left).anchored;
       }
@@ -231,6 +248,33 @@ module _ {D : Type 0} (outside : D → Outside) (crash_states : D → CrashState
       → (i : List ℕ) (a : Anchor) → crash_states new (outside old).clock i a → IsIntactIn i (written new) store a
   intact_since old new xs maybe ran sound reliable i a since =
       let f = ran.moments.each i a since sound in f.spares reliable.honest (reliable.intact f.image f.anchor f.left)
+
+  -- Where each anchor that a stop could leave had a log of the store, it doesn't matter in which suite an image is intact.
+  pub reliable_of : (p : D) → EachHasLog outside crash_states store p → IsReliableUnder outside crash_states store.secret p
+      → IsReliable outside crash_states store p
+  reliable_of p each reliable = record {
+    honest = reliable.honest;
+    intact = λ i a here.
+        let log = each i a here in
+        let is = reliable.intact i a here in
+        record { history = log.0; last = log.1; log = log.2; stand = λ piece needs. is.1.stand piece (in_suite is.0 a piece needs) };
+  }
+    where
+      in_suite : (suite : Suite) (a : Anchor) (piece : Piece) → IsRequired (written p) store a piece
+          → IsRequired (written p) (record { secret = store.secret; suite = suite }) a piece
+      in_suite suite a piece needs = record {
+        chain = needs.chain;
+        ends = needs.ends;
+        text = needs.text;
+        earlier = needs.earlier;
+        later = needs.later;
+        in_chain = needs.in_chain;
+        since_base = needs.since_base;
+        rests = needs.rests;
+      }
+
+  pub reliable_under : (p : D) → IsReliable outside crash_states store p → IsReliableUnder outside crash_states store.secret p
+  reliable_under p reliable = record { honest = reliable.honest; intact = λ i a here. (store.suite, reliable.intact i a here) }
 
   module _ (a b c : D) where
     grows_on : (xs ys m n : History) → Ran a xs m b → Ran b ys n c → IsTrue (outside a).tells → Extends (outside a).trace (outside c).trace
@@ -253,6 +297,7 @@ module _ {D : Type 0} (outside : D → Outside) (crash_states : D → CrashState
               (leads_after store (written a) (written b) (written c) f.anchor x x [] (xs ++ m) f.leads
               (still_leads store (outside b).trace (outside c).trace grows x []));
           anchored = λ was. still_anchored store (outside b).trace (outside c).trace grows x (f.anchored was);
+          counts = f.counts;
           spares = λ honest was. still_intact store (outside b).trace (outside c).trace grows x i (f.spares honest was);
         }
 
@@ -269,8 +314,38 @@ module _ {D : Type 0} (outside : D → Outside) (crash_states : D → CrashState
           left = f.left;
           leads = leads f.anchor f.leads;
           anchored = λ was. t.anchored (f.anchored was);
+          counts = counts_then store (written a) (written b) f.anchor t.anchor x xs m f.leads f.counts t.counts;
           spares = λ honest was. t.spares (subst (λ (b : Bool). IsTrue b) (sym first.honest) honest) (f.spares honest was);
         }
+
+    -- the texts of one run and then another,
+    texts_on : (xs ys maybe : History) → Ran a xs [] b → Ran b ys maybe c → IsSound store.secret (outside c)
+        → IsSound store.secret (outside b) → WritesTexts outside crash_states store a ((xs ++ ys) ++ maybe) c
+    texts_on xs ys maybe first then sound mid =
+        writes_then outside crash_states store a b c xs [] (ys ++ maybe) ((xs ++ ys) ++ maybe) ys maybe (then.grows mid.tells) first.faults
+        then.faults (first.leads mid) (then.counts sound) (first.left mid) (then.left sound)
+        (ys ++ maybe, ap (λ (h : History). h ++ (ys ++ maybe)) (append-nil xs) ∙ sym (append_assoc xs ys maybe))
+        (λ f g none is. (
+          is.0,
+          append_assoc (xs ++ f) g is.0 ∙ ap (λ (h : History). (xs ++ f) ++ h) is.1
+              ∙ ap (λ (h : History). (xs ++ h) ++ (ys ++ maybe)) (no_front f none)
+              ∙ ap (λ (h : History). h ++ (ys ++ maybe)) (append-nil xs) ∙ sym (append_assoc xs ys maybe),
+        ))
+        (first.texts mid) (then.texts sound)
+
+    -- and of one that begins no commit, behind one that may have
+    texts_after : (xs maybe : History) → Ran a xs maybe b → Ran b [] [] c → IsSound store.secret (outside c)
+        → IsSound store.secret (outside b) → WritesTexts outside crash_states store a (xs ++ maybe) c
+    texts_after xs maybe first then sound mid =
+        writes_then outside crash_states store a b c xs maybe [] (xs ++ maybe) [] [] (then.grows mid.tells) first.faults
+        then.faults (first.leads mid) (then.counts sound) (first.left mid) (then.left sound)
+        ([], append-nil (xs ++ maybe))
+        (λ f g is none. (
+          is.0,
+          ap (λ (h : History). ((xs ++ f) ++ h) ++ is.0) (no_front g none)
+              ∙ ap (λ (h : History). h ++ is.0) (append-nil (xs ++ f)) ∙ append_assoc xs f is.0 ∙ ap (λ (h : History). xs ++ h) is.1,
+        ))
+        (first.texts mid) (then.texts sound)
 
     -- One run, and then another.
     pub ran_then : (xs ys maybe : History) → Ran a xs [] b → Ran b ys maybe c → Ran a (xs ++ ys) maybe c
@@ -280,11 +355,16 @@ module _ {D : Type 0} (outside : D → Outside) (crash_states : D → CrashState
       grows = grows_on xs ys [] maybe first then;
       faults = omega (arith, first.faults, then.faults);
       sealed = only_sealed_along store.secret (outside a) (outside b) (outside c) first.tells first.sealed then.sealed;
-      formed = λ sound kept. then.formed sound (kept_after a b xs [] first (sound_before b c ys maybe then sound) kept);
+      formed = λ sound kept. then.formed sound (anchor_after a b xs [] first (sound_before b c ys maybe then sound) kept);
+      texts = λ sound. texts_on xs ys maybe first then sound (sound_before b c ys maybe then sound);
       leads = λ sound.
           leads_then store (written a) (written b) (written c) (outside a).anchor (outside b).anchor (outside c).anchor xs ys maybe
           (first.leads (sound_before b c ys maybe then sound)) (then.leads sound);
       anchored = λ sound was. then.anchored sound (first.anchored (sound_before b c ys maybe then sound) was);
+      counts = λ sound.
+          let mid = sound_before b c ys maybe then sound in
+          counts_then store (written a) (written b) (outside a).anchor (outside b).anchor (outside c).anchor xs [] (first.leads mid)
+          (first.counts mid) (then.counts sound);
       left = λ sound i x here.
           let t = then.left sound i x here in
           by_way xs [] ys maybe (xs ++ ys) maybe first sound (sound_before b c ys maybe then sound) i x t
@@ -310,11 +390,16 @@ module _ {D : Type 0} (outside : D → Outside) (crash_states : D → CrashState
       grows = grows_on xs [] maybe [] first then;
       faults = omega (arith, first.faults, then.faults);
       sealed = only_sealed_along store.secret (outside a) (outside b) (outside c) first.tells first.sealed then.sealed;
-      formed = λ sound kept. then.formed sound (kept_after a b xs maybe first (sound_before b c [] [] then sound) kept);
+      formed = λ sound kept. then.formed sound (anchor_after a b xs maybe first (sound_before b c [] [] then sound) kept);
+      texts = λ sound. texts_after xs maybe first then sound (sound_before b c [] [] then sound);
       leads = λ sound.
           leads_after store (written a) (written b) (written c) (outside a).anchor (outside b).anchor (outside c).anchor xs maybe
           (first.leads (sound_before b c [] [] then sound)) (then.leads sound);
       anchored = λ sound was. then.anchored sound (first.anchored (sound_before b c [] [] then sound) was);
+      counts = λ sound.
+          let mid = sound_before b c [] [] then sound in
+          counts_then store (written a) (written b) (outside a).anchor (outside b).anchor (outside c).anchor xs maybe (first.leads mid)
+          (first.counts mid) (then.counts sound);
       left = λ sound i x here.
           let t = then.left sound i x here in
           by_way xs maybe [] [] xs maybe first sound (sound_before b c [] [] then sound) i x t
@@ -336,6 +421,7 @@ module _ {D : Type 0} (outside : D → Outside) (crash_states : D → CrashState
     left = f.left;
     leads = leads_wider store (written old) (written new) f.anchor x xs maybe more all is f.leads;
     anchored = f.anchored;
+    counts = f.counts;
     spares = f.spares;
   }
 
@@ -348,9 +434,12 @@ module _ {D : Type 0} (outside : D → Outside) (crash_states : D → CrashState
     faults = ran.faults;
     sealed = ran.sealed;
     formed = ran.formed;
+    texts = λ sound. writes_wider outside crash_states store old new (xs ++ []) maybe (xs ++ maybe)
+        (ap (λ (h : History). h ++ maybe) (append-nil xs)) (ran.texts sound);
     leads = λ sound. leads_wider store (written old) (written new) (outside old).anchor (outside new).anchor xs [] maybe maybe refl
         (ran.leads sound);
     anchored = ran.anchored;
+    counts = ran.counts;
     left = λ sound i x here. from_wider old new xs [] maybe maybe refl i x (ran.left sound i x here);
     moments = record {
       later = ran.moments.later;

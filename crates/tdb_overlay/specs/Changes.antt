@@ -20,7 +20,8 @@ pub record IsWritten (finds : Finds) (secret : List ℕ) (e : Entry) (bytes : Li
   pub numbered : suite_number suite ≡ e.suite
   pub sealed : List ℕ
   pub found : finds e.piece sealed
-  pub opened : IsSealedRecord (partition_key secret e.home e.birth) (record { kind = 1; suite = suite; home = e.home; rank = e.rank }) bytes sealed
+  pub opened : IsSealedRecord (partition_key secret e.home e.birth)
+      (record { kind = 1; suite = suite; home = e.home; rank = e.rank }) bytes sealed
 
 -- the change that an entry says
 abbrev pub IsChangeOf : Finds → List ℕ → Entry → Change → Type 0

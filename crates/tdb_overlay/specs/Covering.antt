@@ -49,7 +49,16 @@ cover_freed rank p = record p { edits = insert p.edits rank None }
 
 -- A partition that is made is its own home, is born at the count, and has no rank that was changed.
 abbrev pub cover_made : ℕ → Entry → Covered
-cover_made count e = record { suite = suite_numbered e.suite; home = e.part; birth = count; next = 0; parent = 0; born = count; edits = empty }
+cover_made count e = record {
+  suite = suite_numbered e.suite;
+  home = e.part;
+  birth = count;
+  next = 0;
+  parent = 0;
+  born = count;
+  edits
+      = empty;
+}
 
 -- A copy has all of its source. The source is its parent, and it is born at the count.
 abbrev pub cover_copied : ℕ → ℕ → Covered → Covered
@@ -78,7 +87,8 @@ noted_all count covers (e ∷ entries) = noted_all count (noted count covers e) 
 pub record IsRecordOfChunk (finds : Finds) (secret : List ℕ) (p : Partition) (rank : ℕ) (piece : Piece) (bytes : List ℕ) : Type 0 where
   pub sealed : List ℕ
   pub found : finds piece sealed
-  pub opened : IsSealedRecord (partition_key secret p.home p.birth) (record { kind = 1; suite = p.suite; home = p.home; rank = rank }) bytes sealed
+  pub opened : IsSealedRecord (partition_key secret p.home p.birth)
+      (record { kind = 1; suite = p.suite; home = p.home; rank = rank }) bytes sealed
 
 -- The state has a chunk where a record is told, with that record's bytes, and nowhere else.
 abbrev pub IsCoveredChunk : Finds → List ℕ → Partition → ℕ → Option (Option Piece) → Option (List ℕ) → Type 0

@@ -35,16 +35,20 @@ UnlessErr added result from more to = added from more to ⊎ (IsErr result × No
 -- the calls, and behind it commits that belong.
 abbrev pub HasGrownBy : Store → Outside → Outside → Commits → Anchor → Type 0
 HasGrownBy store old new belongs anchor =
-    IsUnforged new.trace (commit_of (commit_key_of store.secret)) → (before : History) (from : StoreState) → IsLog old.trace.written store old.anchor before from
+    IsUnforged new.trace (commit_of (commit_key_of store.secret)) → (before : History) (from : StoreState)
+    → IsLog old.trace.written store old.anchor before from
     → (more : History) × (to : StoreState) × belongs from more to × IsLog new.trace.written store anchor (before ++ more) to
 
 -- a stop now leaves the anchor that the platform has
 abbrev pub IsSettled : {D : Type 0} → (D → Outside) → (D → CrashStates) → D → Type 0
-IsSettled outside crash_states p = IsTrue (outside p).tells → (i : List ℕ) (a : Anchor) → now outside crash_states p i a → a ≡ (outside p).anchor
+IsSettled outside crash_states p = IsTrue (outside p).tells → (i : List ℕ) (a : Anchor) → now outside crash_states p i a
+    → a ≡ (outside p).anchor
 
 -- A call added these commits, or failed. A stop since its start leaves the log with or without them.
-pub record Added {D T E : Type 0} (outside : D → Outside) (crash_states : D → CrashStates) (store : Store) (old new : D) (added : Commits) (result : Result T E) : Type 0 where
+pub record Added {D T E : Type 0} (outside : D → Outside) (crash_states : D
+    → CrashStates) (store : Store) (old new : D) (added : Commits) (result : Result T E) : Type 0 where
   pub grows : Extends (outside old).trace (outside new).trace
   pub history : HasGrownBy store (outside old) (outside new) (UnlessErr added result) (outside new).anchor
-  pub left : (i : List ℕ) (a : Anchor) → now outside crash_states new i a → HasGrownBy store (outside old) (outside new) (UnlessErr added result) a
+  pub left : (i : List ℕ) (a : Anchor) → now outside crash_states new i a
+      → HasGrownBy store (outside old) (outside new) (UnlessErr added result) a
   pub any_moment : LeavesOnly outside crash_states old new (λ i a. HasGrownBy store (outside old) (outside new) (OrNothing added) a)

@@ -2,6 +2,7 @@
 use Rattle.std.specs.Prelude.{◌≡◌, ℕ, List, length, IsTrue}
 use Rattle.sha2.specs.Sha256.{sha256}
 use Rattle.tdb_base.specs.declared.piece.Piece.{Piece}
+use Rattle.tdb_base.specs.declared.suite.Suite.{Suite}
 use Rattle.tdb_base.specs.Trace.{WrittenPiece}
 use Rattle.tdb_model.specs.Apply.{History}
 use Rattle.tdb_platform.specs.Outside.{Anchor, Outside}
@@ -35,3 +36,13 @@ pub record IsIntactIn (image : List ℕ) (written : List WrittenPiece) (store : 
 pub record IsReliable {D : Type 0} (outside : D → Outside) (crash_states : D → CrashStates) (store : Store) (p : D) : Type 0 where
   pub honest : IsTrue (outside p).honest
   pub intact : (i : List ℕ) (a : Anchor) → now outside crash_states p i a → IsIntactIn i (outside p).trace.written store a
+
+-- the same for a log of any store of the secret
+abbrev pub IsIntactUnder : List ℕ → List WrittenPiece → List ℕ → Anchor → Type 0
+IsIntactUnder image written secret anchor =
+    (suite : Suite) × IsIntactIn image written (record { secret = secret; suite = suite }) anchor
+
+-- The device is honest, and each image that a stop may leave now is intact for the anchor that it leaves with it, in whatever suite.
+pub record IsReliableUnder {D : Type 0} (outside : D → Outside) (crash_states : D → CrashStates) (secret : List ℕ) (p : D) : Type 0 where
+  pub honest : IsTrue (outside p).honest
+  pub intact : (i : List ℕ) (a : Anchor) → now outside crash_states p i a → IsIntactUnder i (outside p).trace.written secret a

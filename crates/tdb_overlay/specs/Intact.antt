@@ -20,7 +20,8 @@ IsClear place n w = (w.place + length w.bytes ≤ place) ⊎ (place + n ≤ w.pl
 -- The bytes were written at the place, and whatever was written later is clear of them.
 abbrev pub StandsAt : List WrittenPiece → ℕ → List ℕ → Type 0
 StandsAt [] place bytes = ⊥
-StandsAt (w ∷ later) place bytes = ((w.place ≡ place) × (w.bytes ≡ bytes) × AllByRecursion (IsClear place (length bytes)) later) ⊎ StandsAt later place bytes
+StandsAt (w ∷ later) place bytes = ((w.place ≡ place) × (w.bytes ≡ bytes) × AllByRecursion (IsClear place (length bytes)) later)
+    ⊎ StandsAt later place bytes
 
 -- bytes of the piece's digest and length stand at its place
 pub record Stands (written : List WrittenPiece) (piece : Piece) : Type 0 where
@@ -37,7 +38,8 @@ IsIntact written store anchor = (piece : Piece) → IsRequired written store anc
 -- that it needs stand after them.
 abbrev pub KeepsIntact : Store → Outside → Outside → Type 0
 KeepsIntact store old new =
-    IsUnforged new.trace (commit_of (commit_key_of store.secret)) → (before : History) (from : StoreState) → IsLog old.trace.written store old.anchor before from
+    IsUnforged new.trace (commit_of (commit_key_of store.secret)) → (before : History) (from : StoreState)
+    → IsLog old.trace.written store old.anchor before from
     → IsIntact old.trace.written store old.anchor → IsIntact new.trace.written store new.anchor
 
 -- the same of a platform that tells its trace

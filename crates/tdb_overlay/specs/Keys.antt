@@ -22,4 +22,5 @@ IsChunkName name = (name.kind ≡ 1) × (1 ≤ name.home) × (name.home ≤ 4095
 -- the key that a record has by its name
 abbrev pub IsKeyFor : List ℕ → Name → List ℕ → Type 0
 IsKeyFor secret name key =
-    (IsSystemName name × (key ≡ system_key secret)) ⊎ (IsChunkName name × ((birth : ℕ) × (1 ≤ birth) × (key ≡ partition_key secret name.home birth)))
+    (IsSystemName name × (key ≡ system_key secret)) ⊎ (IsChunkName name
+    × ((birth : ℕ) × (1 ≤ birth) × (key ≡ partition_key secret name.home birth)))

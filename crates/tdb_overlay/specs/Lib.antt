@@ -5,6 +5,7 @@ pub mod Found
 pub mod Growth
 pub mod Images
 pub mod Intact
+pub mod KeptKeys
 pub mod Keys
 pub mod LaidPieces
 pub mod Log

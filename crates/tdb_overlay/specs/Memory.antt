@@ -39,7 +39,16 @@ abbrev pub coded_covered : Coded Covered
 coded_covered = code_by (Suite × ((ℕ × ℕ) × ((ℕ × ℕ) × (ℕ × Edits))))
     (coded× coded_suite (coded× (coded× coded_ℕ coded_ℕ) (coded× (coded× coded_ℕ coded_ℕ) (coded× coded_ℕ coded_edits))))
     (λ p. (p.suite, ((p.home, p.birth), ((p.next, p.parent), (p.born, p.edits)))))
-    (λ t. record { suite = t.0; home = t.1.0.0; birth = t.1.0.1; next = t.1.1.0.0; parent = t.1.1.0.1; born = t.1.1.1.0; edits = t.1.1.1.1 })
+    (λ t. record {
+      suite = t.0;
+      home = t.1.0.0;
+      birth = t.1.0.1;
+      next = t.1.1.0.0;
+      parent = t.1.1.0.1;
+      born = t.1.1.1.0;
+      edits
+          = t.1.1.1.1;
+    })
     (λ _. refl)
 
 abbrev pub coded_covers : Coded Covers

@@ -64,7 +64,8 @@ record_of_change store state (Drop part) = []
 -- those of changes, each made on the state after the ones before it
 abbrev pub records_of : Store → ℕ → State → List Change → List ℕ
 records_of store count state [] = []
-records_of store count state (change ∷ changes) = record_of_change store state change ++ records_of store count (apply count state change) changes
+records_of store count state (change ∷ changes) = record_of_change store state change ++ records_of store count
+    (apply count state change) changes
 
 -- the records of a commit in the order in which they are placed: those of its writes, and its list
 abbrev pub commit_lengths : Store → ℕ → State → List Change → List ℕ
@@ -98,7 +99,8 @@ where_placed s changes (Err refusal) = Err (NoRoom refusal)
 abbrev pub where_passed : Store → StoreState → List Change → Option CommitError → Result StoreState CommitError
 where_passed store s changes (Some refusal) = Err refusal
 where_passed store s changes None =
-    if s.count == s.base + 1000 then Err RingFull else (if s.count == 18446744073709551615 then Err CounterEnd else where_placed s changes (commit_fits store s changes))
+    if s.count == s.base + 1000 then Err RingFull else (if s.count == 18446744073709551615 then Err CounterEnd else where_placed s changes
+    (commit_fits store s changes))
 
 -- a commit of these changes: the state after it, or why it is refused
 unfoldable pub commit_on : Store → StoreState → List Change → Result StoreState CommitError

@@ -37,17 +37,24 @@ pub fn fetch<P: Platform>(
     piece: &Piece,
 ) -> Result<Vec<u8>, FetchError>
     ensures reads { OnlyReads P.outside P.crash_states platform.old platform.new }
-    ensures read { IsTrue (P.outside platform.old).tells → IfOk result (λ bytes. (P.outside platform.new).trace ≡ with_read (P.outside platform.old).trace piece.now.place.0 piece.now.length bytes.items) }
+    ensures read { IsTrue (P.outside platform.old).tells
+        → IfOk result (λ bytes. (P.outside platform.new).trace
+        ≡ with_read (P.outside platform.old).trace piece.now.place.0 piece.now.length bytes.items) }
     ensures digest { IfOk result (λ bytes. sha256 bytes.items ≡ piece.now.digest.0) }
-    ensures tampered { (damage : Damage) → result ≡ Err (FetchError.Tampered damage) → (damage.place ≡ piece.now.place) × (damage.expected ≡ piece.now.digest)
-        × (IsTrue (P.outside platform.old).tells → (bytes : List ℕ) × ((P.outside platform.new).trace ≡ with_read (P.outside platform.old).trace piece.now.place.0 piece.now.length bytes) × (sha256 bytes ≡ damage.found.0) × (damage.found ≢ piece.now.digest)) }
+    ensures tampered { (damage : Damage) → result ≡ Err (FetchError.Tampered damage) → (damage.place ≡ piece.now.place)
+        × (damage.expected ≡ piece.now.digest)
+        × (IsTrue (P.outside platform.old).tells → (bytes : List ℕ)
+        × ((P.outside platform.new).trace ≡ with_read (P.outside platform.old).trace piece.now.place.0 piece.now.length bytes)
+        × (sha256 bytes ≡ damage.found.0) × (damage.found ≢ piece.now.digest)) }
     ensures fault { result ≡ Err FetchError.Fault → Rose (P.outside platform.old).faults (P.outside platform.new).faults }
     // an honest device tells no damage where the piece stands
-    ensures stands { IsTrue (P.outside platform.old).honest → StandsIn (P.outside platform.old).image piece.now → (damage : Damage) → result ≢ Err (FetchError.Tampered damage) }
+    ensures stands { IsTrue (P.outside platform.old).honest → StandsIn (P.outside platform.old).image piece.now → (damage : Damage)
+        → result ≢ Err (FetchError.Tampered damage) }
     // with any other answer there was no fault
     ensures quiet { result ≢ Err FetchError.Fault → (P.outside platform.new).faults ≡ (P.outside platform.old).faults }
     // what failed is in no trace
-    ensures failed { result ≡ Err FetchError.Fault → IsTrue (P.outside platform.old).tells → (P.outside platform.new).trace ≡ (P.outside platform.old).trace }
+    ensures failed { result ≡ Err FetchError.Fault → IsTrue (P.outside platform.old).tells
+        → (P.outside platform.new).trace ≡ (P.outside platform.old).trace }
     ensures unread { result ≡ Err FetchError.Memory → platform.new ≡ platform.old }
     ensures settled { IsSettled P.outside P.crash_states platform.old → IsSettled P.outside P.crash_states platform.new }
 {
@@ -80,17 +87,24 @@ pub fn fetch_text<P: Platform>(
 ) -> Result<[u8; 256], FetchError>
     requires { 0 < count }
     ensures reads { OnlyReads P.outside P.crash_states platform.old platform.new }
-    ensures read { IsTrue (P.outside platform.old).tells → IfOk result (λ text. (P.outside platform.new).trace ≡ with_read (P.outside platform.old).trace (slot_place count) 256 text) }
+    ensures read { IsTrue (P.outside platform.old).tells
+        → IfOk result (λ text. (P.outside platform.new).trace ≡ with_read (P.outside platform.old).trace (slot_place count) 256 text) }
     ensures digest { IfOk result (λ text. sha256 text ≡ mark.now.0) }
-    ensures tampered { (damage : Damage) → result ≡ Err (FetchError.Tampered damage) → (damage.place ≡ record { 0 = slot_place count }) × (damage.expected ≡ mark.now)
-        × (IsTrue (P.outside platform.old).tells → (bytes : List ℕ) × ((P.outside platform.new).trace ≡ with_read (P.outside platform.old).trace (slot_place count) 256 bytes) × (sha256 bytes ≡ damage.found.0) × ((damage.found ≢ mark.now) ⊎ (length bytes < 256))) }
+    ensures tampered { (damage : Damage) → result ≡ Err (FetchError.Tampered damage) → (damage.place ≡ record { 0 = slot_place count })
+        × (damage.expected ≡ mark.now)
+        × (IsTrue (P.outside platform.old).tells → (bytes : List ℕ)
+        × ((P.outside platform.new).trace ≡ with_read (P.outside platform.old).trace (slot_place count) 256 bytes)
+        × (sha256 bytes ≡ damage.found.0) × ((damage.found ≢ mark.now) ⊎ (length bytes < 256))) }
     ensures fault { result ≡ Err FetchError.Fault → Rose (P.outside platform.old).faults (P.outside platform.new).faults }
     // an honest device tells no damage where the text stands
-    ensures stands { IsTrue (P.outside platform.old).honest → StandsIn (P.outside platform.old).image (record { place = record { 0 = slot_place count }; length = 256; digest = mark.now }) → (damage : Damage) → result ≢ Err (FetchError.Tampered damage) }
+    ensures stands { IsTrue (P.outside platform.old).honest
+        → StandsIn (P.outside platform.old).image (record { place = record { 0 = slot_place count }; length = 256; digest = mark.now })
+        → (damage : Damage) → result ≢ Err (FetchError.Tampered damage) }
     // with any other answer there was no fault
     ensures quiet { result ≢ Err FetchError.Fault → (P.outside platform.new).faults ≡ (P.outside platform.old).faults }
     // what failed is in no trace
-    ensures failed { result ≡ Err FetchError.Fault → IsTrue (P.outside platform.old).tells → (P.outside platform.new).trace ≡ (P.outside platform.old).trace }
+    ensures failed { result ≡ Err FetchError.Fault → IsTrue (P.outside platform.old).tells
+        → (P.outside platform.new).trace ≡ (P.outside platform.old).trace }
     ensures unread { result ≡ Err FetchError.Memory → platform.new ≡ platform.old }
     ensures no_memory { result ≢ Err FetchError.Memory }
     ensures settled { IsSettled P.outside P.crash_states platform.old → IsSettled P.outside P.crash_states platform.new }

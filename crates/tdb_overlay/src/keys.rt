@@ -1,19 +1,24 @@
 //! The keys of a store.
-ghost use Rattle.std.specs.Prelude.{◌≡◌};
+ghost use Rattle.std.specs.Prelude.{◌≡◌, ◌≤◌, ℕ, List, Err, IfOk, length};
 ghost use Rattle.tdb_mark.specs.CommitText.{commit_key_of};
+ghost use Rattle.tdb_seal.specs.SealedRecord.{IsSealedRecord};
+ghost use Rattle.tdb_seal.specs.declared.record.SealError.TheVariants.{Form};
 ghost use Rattle.tdb_overlay.specs.Keys.{system_key, partition_key};
 
+use crate::record_keys::{PartitionKeys, SystemKey};
+use std::alloc::{AllocError, Global};
 use std::marker::Model;
-use tdb_base::{Key, PartId};
-use tdb_mac::{PreparedKey, derive};
+use tdb_base::PartId;
+use tdb_mac::PreparedKey;
 use tdb_mark::commit_key;
+use tdb_seal::{Name, PLAIN_LIMIT, SealError, read_record_with, seal_record_with};
 
-/// A secret, with the keys that each commit needs. Contracts see the secret.
+/// A secret, with the keys that are prepared of it. Contracts see the secret.
 #[derive(Drop)]
 pub struct Keys {
-    secret: [u8; 32],
     commit: PreparedKey,
-    system: Key,
+    system: SystemKey,
+    partitions: PartitionKeys,
 }
 
 impl Model for Keys {
@@ -23,20 +28,20 @@ impl Model for Keys {
 
     ghost Value = { List ℕ };
 
-    ghost view = { λ keys. keys.secret };
+    ghost view = { λ keys. keys.partitions };
 
-    ghost invariant = { λ keys. (keys.commit ≡ commit_key_of keys.secret) × (keys.system.0 ≡ system_key keys.secret) };
+    ghost invariant = { λ keys. (keys.commit ≡ commit_key_of keys.partitions) × (keys.system ≡ system_key keys.partitions) };
 }
 
 impl Keys {
     /// The keys of a secret.
-    pub fn new(secret: &[u8; 32]) -> Keys
+    pub fn new(alloc: Global, secret: &[u8; 32]) -> Keys
         ensures { result ≡ secret.now }
     {
         Keys {
-            secret: *secret,
             commit: PreparedKey::new(&commit_key(secret)),
-            system: derive(secret, b"TDBsystm", 0, 0),
+            system: SystemKey::new(secret),
+            partitions: PartitionKeys::new(alloc, secret),
         }
     }
 
@@ -47,18 +52,63 @@ impl Keys {
         &self.commit
     }
 
-    /// The key of the records of the system.
-    pub fn system(&self) -> &Key
-        ensures { result.now.0 ≡ system_key self.now }
+    /// The record of a plain text of the system.
+    pub fn seal_system(
+        &self,
+        alloc: Global,
+        name: &Name,
+        plain: &[u8],
+    ) -> Result<Vec<u8>, AllocError>
+        requires size { length plain.now ≤ PLAIN_LIMIT }
+        ensures { IfOk result (λ bytes. IsSealedRecord (system_key self.now) name.now plain.now bytes.items) }
     {
-        &self.system
+        seal_record_with(alloc, self.system.under(name.suite), name, plain)
     }
 
-    /// The key of the records of a partition, which was made under its home's number by the commit with the count
-    /// `birth`.
-    pub fn partition(&self, home: PartId, birth: u64) -> Key
-        ensures { result.0 ≡ partition_key self.now home.0 birth }
+    /// The plain text of the system whose record the bytes are.
+    pub fn read_system(
+        &self,
+        alloc: Global,
+        name: &Name,
+        bytes: &[u8],
+    ) -> Result<Vec<u8>, SealError>
+        ensures found { IfOk result (λ plain. IsSealedRecord (system_key self.now) name.now plain.items bytes.now) }
+        ensures form { result ≡ Err Form → (plain : List ℕ) → IsSealedRecord (system_key self.now) name.now plain bytes.now → ⊥ }
     {
-        derive(&self.secret, b"TDBpartn", u64::from(home.0), birth)
+        read_record_with(alloc, self.system.under(name.suite), name, bytes)
+    }
+
+    /// The record of a plain text of the partition with a number, whose home the name has, and which the commit with the
+    /// count `birth` made. Its key is kept, if there is memory for it.
+    pub fn seal_chunk(
+        &mut self,
+        alloc: Global,
+        part: PartId,
+        birth: u64,
+        name: &Name,
+        plain: &[u8],
+    ) -> Result<Vec<u8>, AllocError>
+        requires size { length plain.now ≤ PLAIN_LIMIT }
+        ensures same { self.new ≡ self.old }
+        ensures sealed { IfOk result (λ bytes. IsSealedRecord (partition_key self.old name.now.home birth) name.now plain.now bytes.items) }
+    {
+        self.partitions.seal(alloc, part, birth, name, plain)
+    }
+
+    /// The plain text of that partition whose record the bytes are. Its key is kept, if there is memory for it.
+    pub fn read_chunk(
+        &mut self,
+        alloc: Global,
+        part: PartId,
+        birth: u64,
+        name: &Name,
+        bytes: &[u8],
+    ) -> Result<Vec<u8>, SealError>
+        ensures same { self.new ≡ self.old }
+        ensures found { IfOk result (λ plain. IsSealedRecord (partition_key self.old name.now.home birth) name.now plain.items bytes.now) }
+        ensures form { result ≡ Err Form → (plain : List ℕ)
+            → IsSealedRecord (partition_key self.old name.now.home birth) name.now plain bytes.now → ⊥ }
+    {
+        self.partitions.read(alloc, part, birth, name, bytes)
     }
 }

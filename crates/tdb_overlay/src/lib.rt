@@ -11,6 +11,7 @@ mod kept;
 mod keys;
 mod laws;
 mod overlay;
+mod record_keys;
 mod recovered;
 mod runs;
 

@@ -11,9 +11,9 @@ ghost use Rattle.tdb_platform.specs.CrashStates.{now};
 ghost use Rattle.tdb_platform.specs.Outside.{Anchor, Told};
 ghost use Rattle.tdb_overlay.specs.Found.{Store};
 ghost use Rattle.tdb_overlay.specs.Growth.{IsSettled};
-ghost use Rattle.tdb_overlay.specs.Images.{IsIntactIn, IsReliable};
+ghost use Rattle.tdb_overlay.specs.Images.{IsIntactIn, IsReliable, IsReliableUnder};
 ghost use Rattle.tdb_overlay.specs.NextText.{GoesOnWith, IsLaidText};
-ghost use Rattle.tdb_overlay.specs.Ran.{RanOn, RanStep};
+ghost use Rattle.tdb_overlay.specs.Ran.{EachHasLog, RanOn, RanStep};
 ghost use Rattle.tdb_overlay.specs.Reading.{OnlyReads};
 ghost use Rattle.tdb_overlay.specs.Sound.{IsSound};
 ghost use Rattle.tdb_overlay.specs.WellFormedLog.{IsKeptLog, IsWellFormedLog};
@@ -53,12 +53,16 @@ pub fn runs_join<P: Platform>(_platform: &P)
         RanOn P.outside P.crash_states store old surely [] new → RanOn P.outside P.crash_states store old surely maybe new }
 {}
 
-/// What each run keeps, where its end is sound: a log that was well formed is so for each anchor that a stop may leave now,
-/// or since the run's start, and an image that was intact for its anchor leaves only such pairs.
+/// What each run keeps, where its end is sound: a log that was well formed is so for the platform's anchor, and for each that a stop
+/// may leave now, or since the run's start, and an image that was intact for its anchor leaves only such pairs.
 pub fn runs_keep<P: Platform>(_platform: &P)
     ensures sound { (store : Store) (old new : P) (surely maybe : History) →
         RanOn P.outside P.crash_states store old surely maybe new → IsSound store.secret (P.outside new) →
         IsSound store.secret (P.outside old) }
+    ensures anchor { (store : Store) (old new : P) (surely maybe : History) →
+        RanOn P.outside P.crash_states store old surely maybe new → IsSound store.secret (P.outside new) →
+        IsWellFormedLog (P.outside old).trace.written store.secret (P.outside old).anchor →
+        IsWellFormedLog (P.outside new).trace.written store.secret (P.outside new).anchor }
     ensures kept { (store : Store) (old new : P) (surely maybe : History) →
         RanOn P.outside P.crash_states store old surely maybe new → IsSound store.secret (P.outside new) →
         IsKeptLog P.outside P.crash_states store.secret old → IsKeptLog P.outside P.crash_states store.secret new }
@@ -75,4 +79,7 @@ pub fn runs_keep<P: Platform>(_platform: &P)
         IsReliable P.outside P.crash_states store old →
         (i : List ℕ) (a : Anchor) → P.crash_states new (P.outside old).clock i a →
         IsIntactIn i (P.outside new).trace.written store a }
+    // in whatever suite, where each anchor that a stop could leave had a log of the store
+    ensures reliable_of { (store : Store) (p : P) → EachHasLog P.outside P.crash_states store p →
+        IsReliableUnder P.outside P.crash_states store.secret p → IsReliable P.outside P.crash_states store p }
 {}

@@ -46,17 +46,14 @@ all_next P entries i d below holds all =
 abbrev pub list_name : Commit → Name
 list_name c = record { kind = 5; suite = c.suite; home = 0; rank = 0 }
 
-module _ (secret : List ℕ) (log : Recovered) (c : Commit) (bytes key : List ℕ) (keyed : key ≡ system_key secret) (plain : List ℕ)
-    (opened : IsSealedRecord key (list_name c) plain bytes) where
-  by_system : IsSealedRecord (system_key secret) (list_name c) plain bytes
-  by_system = subst (λ (k : List ℕ). IsSealedRecord k (list_name c) plain bytes) keyed opened
-
+module _ (secret : List ℕ) (log : Recovered) (c : Commit) (bytes plain : List ℕ)
+    (opened : IsSealedRecord (system_key secret) (list_name c) plain bytes) where
   spelled : (entries : List Entry) → IsMemberList secret log c bytes entries → IsChangeList entries plain
-  spelled entries given = subst (IsChangeList entries) (sym (list_is_one secret log c bytes plain entries by_system given)) given.list
+  spelled entries given = subst (IsChangeList entries) (sym (list_is_one secret log c bytes plain entries opened given)) given.list
 
   pub is_list : (entries : List Entry) → sha256 bytes ≡ c.first.digest.0 → IsChangeList entries plain
       → AllByRecursion (LiesBelow log.segments.segments) (named_records entries) → IsMemberList secret log c bytes entries
-  is_list entries digest list lie = record { digest = digest; plain = plain; opened = by_system; list = list; records = lie }
+  is_list entries digest list lie = record { digest = digest; plain = plain; opened = opened; list = list; records = lie }
 
   -- the record's plain text is no list
   pub not_spelled : ((entries : List Entry) → IsChangeList entries plain → ⊥) → (entries : List Entry)

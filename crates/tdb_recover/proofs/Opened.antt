@@ -3,6 +3,8 @@ use Rattle.std.proofs.Common.{◌≡◌, ◌⊎◌, inl, inr, ⊎_elim, ℕ, ◌
 use Rattle.std.proofs.Common.{IsTrue, Result, Ok, Err, IfErr, IfOk, refl, sym, ◌∙◌, ap, subst, append-nil, append_assoc}
 use Rattle.std.specs.List.{AllByRecursion}
 use Rattle.std.proofs.lemmas.List.{append_cancel_left}
+use Rattle.sha2.specs.Sha256.{sha256}
+use Rattle.tdb_append.specs.declared.head.Head.{Head}
 use Rattle.tdb_base.specs.declared.piece.Piece.{Piece}
 use Rattle.tdb_base.specs.Trace.{IsNumbered, ReadPiece, Trace, WrittenPiece}
 use Rattle.tdb_list.specs.ChangeList.{IsList}
@@ -23,7 +25,7 @@ use Rattle.tdb_overlay.specs.declared.recovered.Recovered.{Recovered}
 use Rattle.tdb_overlay.proofs.RanLaws.{ran_itself}
 use Rattle.tdb_overlay.proofs.ReadingLaws.{reads_then}
 use Rattle.tdb_recover.specs.Ahead.{AsksAhead, HasSeen, IsAsShown, MayFollow}
-use Rattle.tdb_recover.specs.Opening.{HasLookedAhead, HasNotRecovered, HasRecovered, HasTakenShown, StaysOrTakes}
+use Rattle.tdb_recover.specs.Opening.{HasLookedAhead, HasNotRecovered, HasRecovered, HasShownWhole, HasTakenShown, StaysOrTakes}
 use Rattle.tdb_recover.specs.Pending.{IsTaken}
 use Rattle.tdb_recover.specs.Premises.{Premises}
 use Rattle.tdb_recover.specs.Reads.{ReadsAtMost, ReadsOnly}
@@ -79,7 +81,12 @@ pub stopped_reading : {D : Type 0} (outside : D → Outside) (crash_states : D �
     (history : History) (from : StoreState) → OnlyReads outside crash_states old new
     → HasNotRecovered outside crash_states old new store history from
 stopped_reading outside crash_states old new store history from reads =
-    record { maybe = []; to = from; takes = inr (refl, refl); ran = inr (reads, refl) }
+    record { maybe = []; to = from; takes = inr (refl, refl); shown = inl refl; ran = inr (reads, refl) }
+
+-- a commit that is taken, and that this anchor names
+abbrev NamedStep : Store → History → StoreState → History → StoreState → Anchor → List WrittenPiece → Anchor → Type 0
+NamedStep store history from taken to named written anchor =
+    (is : IsTaken written store anchor history from taken to) × (named ≡ (is.commit.count, sha256 is.text))
 
 module _ {D : Type 0} (outside : D → Outside) (crash_states : D → CrashStates)
     (counts : (p : D) (t u : ℕ) (i : List ℕ) (a : Anchor) → t ≤ u → u ≤ (outside p).clock → crash_states p u i a → crash_states p t i a)
@@ -94,6 +101,7 @@ module _ {D : Type 0} (outside : D → Outside) (crash_states : D → CrashState
     taken = [];
     to = from;
     takes = inr (refl, refl);
+    named = tt;
     ran = record { mid = new; reads = reads; settled = settled; rest = ran_itself outside crash_states counts numbered store new };
     log = subst (λ (h : History). IsLog (outside new).trace.written store (outside new).anchor h from) (sym (append-nil history))
         (kept_then outside crash_states old new reads t (λ (ws : List WrittenPiece) (a : Anchor). IsLog ws store a history from) is);
@@ -165,50 +173,84 @@ module _ {D : Type 0} (outside : D → Outside) (crash_states : D → CrashState
             sure = sure_then outside crash_states counts mid then seen.only read.sure;
           }
 
+      abbrev named : Anchor
+      named = (p.commit.count, p.mark.0)
+
       both : OnlyReads outside crash_states old then
       both = reads_then outside crash_states counts old mid then read.reads seen.only
 
       -- what is a step of the log as it is behind the reads is one of it as it was before them
       before : (store : Store) (history : History) (from : StoreState) (taken : History) (to : StoreState) → IsTrue (outside old).tells
-          → IsTaken (outside mid).trace.written store (outside mid).anchor history from taken to
-          → IsTaken (outside old).trace.written store (outside old).anchor history from taken to
+          → NamedStep store history from taken to named (outside mid).trace.written (outside mid).anchor
+          → NamedStep store history from taken to named (outside old).trace.written (outside old).anchor
       before store history from taken to t step = kept_back outside crash_states old mid read.reads t
-          (λ (ws : List WrittenPiece) (a : Anchor). IsTaken ws store a history from taken to) step
+          (NamedStep store history from taken to named) step
+
+      -- what showed it, under a secret that is the same
+      abbrev shown_first : (of : List ℕ) → of ≡ secret → IsTrue (outside old).tells
+          → (IsTrue (outside then).tells → (outside new).trace ≡ (outside then).trace)
+          → HasShownWhole (outside old) (outside new) of
+      shown_first of same t unread =
+          let grows = read.reads.grows t in
+          record {
+            log = log;
+            opening = grows.more_read;
+            ahead = reads;
+            pending = p;
+            in_order = ap (λ (u : Trace). u.read) (unread (tells_then outside crash_states old then both t))
+                ∙ seen.told (tells_then outside crash_states old mid read.reads t)
+                ∙ ap (λ (l : List ReadPiece). l ++ reads) grows.read
+                ∙ append_assoc (outside old).trace.read grows.more_read reads;
+            head = read.head t;
+            asks = subst (λ (s : List ℕ). AsksAhead s log reads true) (sym same) asks;
+            shown = subst (λ (s : List ℕ). IsAsShown s log reads p) (sym same) is;
+            knows = λ store history from given.
+                known new store history from (writes_then outside crash_states counts mid then new seen.only after)
+                (subst (λ (s : List ℕ). Premises (outside old) (outside new) s store history from) same given);
+          }
 
       -- It was taken,
       pub took_it : (result : Result Recovered OpenError)
           → ((store : Store) (history : History) (from : StoreState)
           → IsShownWhole outside crash_states mid then (outside new) secret log p store history from
-          → HasTaken outside crash_states mid then new store history from result)
+          → HasTaken outside crash_states mid then new store history from named result)
+          → (IsTrue (outside then).tells → IfOk result (λ r. (outside new).anchor ≡ (r.head.count, r.head.mark.0)))
+          → IfOk result (λ r. r.head ≡ record { count = p.commit.count; mark = p.mark; base = log.head.base })
           → IfOk result (λ r. (store : Store) (history : History) (from : StoreState)
           → Premises (outside old) (outside new) secret store history from → HasRecovered outside crash_states old new store history from r)
-      took_it (Ok r) takes = λ store history from given.
+      took_it (Ok r) takes at head = λ store history from given.
           let h = takes store history from (whole store history from given) in
+          let step = before store history from h.taken h.to given.tells (h.is, h.same) in
           record {
             taken = h.taken;
             to = h.to;
-            takes = inl (before store history from h.taken h.to given.tells h.is);
+            takes = inl step.0;
+            named = at (tells_then outside crash_states old then both given.tells)
+                ∙ ap (λ (h : Head). let a : Anchor = (h.count, h.mark.0) in a) head ∙ step.1;
             ran = record { mid = then; reads = both; settled = settled; rest = h.ran.ok };
             log = h.log;
             knows = h.knows;
           }
-      took_it (Err e) takes = tt
+      took_it (Err e) takes at head = tt
 
       -- or may have been.
       pub may_have_taken : (result : Result Recovered OpenError)
           → ((store : Store) (history : History) (from : StoreState)
           → IsShownWhole outside crash_states mid then (outside new) secret log p store history from
-          → HasTaken outside crash_states mid then new store history from result)
+          → HasTaken outside crash_states mid then new store history from named result)
+          → (IsTrue (outside then).tells → (outside new).trace ≡ (outside then).trace)
           → IfErr result (λ e. (store : Store) (history : History) (from : StoreState)
           → Premises (outside old) (outside new) secret store history from
           → HasNotRecovered outside crash_states old new store history from)
-      may_have_taken (Ok r) takes = tt
-      may_have_taken (Err e) takes = λ store history from given.
+      may_have_taken (Ok r) takes unread = tt
+      may_have_taken (Err e) takes unread = λ store history from given.
           let h = takes store history from (whole store history from given) in
+          let step = before store history from h.taken h.to given.tells (h.is, h.same) in
           record {
             maybe = h.taken;
             to = h.to;
-            takes = inl (before store history from h.taken h.to given.tells h.is);
+            takes = inl step.0;
+            shown = inr (shown_first store.secret given.keys given.tells unread, step.1);
             ran = inl (record { mid = then; reads = both; settled = settled; rest = h.ran.begun });
           }
 
@@ -216,26 +258,10 @@ module _ {D : Type 0} (outside : D → Outside) (crash_states : D → CrashState
       pub stays_or_takes : (result : Result Recovered OpenError) → IsTrue (outside old).tells
           → (IsTrue (outside then).tells → (outside new).trace ≡ (outside then).trace)
           → (IsTrue (outside then).tells
-          → IfErr result (λ _. ((outside new).anchor ≡ (outside then).anchor) ⊎ ((outside new).anchor ≡ (p.commit.count, p.mark.0))))
-          → IfErr result (λ _. StaysOrTakes (outside old) (outside new) secret)
+          → IfErr result (λ _. ((outside new).anchor ≡ (outside then).anchor) ⊎ ((outside new).anchor ≡ named)))
+          → IfErr result (λ _. StaysOrTakes outside crash_states old new secret)
       stays_or_takes (Ok r) t unread either = tt
-      stays_or_takes (Err e) t unread either =
-          let told = tells_then outside crash_states old then both t in
-          let grows = read.reads.grows t in
-          ⊎_elim
-          (λ stays. inl (stays ∙ both.anchor t))
-          (λ takes. inr (
-            log,
-            grows.more_read,
-            reads,
-            p,
-            ap (λ (u : Trace). u.read) (unread told)
-                ∙ seen.told (tells_then outside crash_states old mid read.reads t)
-                ∙ ap (λ (l : List ReadPiece). l ++ reads) grows.read
-                ∙ append_assoc (outside old).trace.read grows.more_read reads,
-            read.head t,
-            asks,
-            is,
-            takes,
-          ))
-          (either told)
+      stays_or_takes (Err e) t unread either = inr (
+        shown_first secret refl t unread,
+        ⊎_elim (λ stays. inl (stays ∙ both.anchor t)) (λ takes. inr takes) (either (tells_then outside crash_states old then both t)),
+      )

@@ -20,7 +20,7 @@ use Rattle.tdb_overlay.specs.Images.{IsIntactIn}
 use Rattle.tdb_overlay.specs.Log.{IsLog}
 use Rattle.tdb_overlay.specs.Needed.{needed}
 use Rattle.tdb_overlay.specs.Placement.{note_all}
-use Rattle.tdb_overlay.specs.Ran.{Leads, RanOn, RanStep}
+use Rattle.tdb_overlay.specs.Ran.{CountsOn, Leads, RanOn, RanStep}
 use Rattle.tdb_overlay.specs.Recovered.{IsRecovered}
 use Rattle.tdb_overlay.specs.StoreState.{StoreState}
 use Rattle.tdb_overlay.specs.WellFormedLog.{IsAnchored, IsWellFormedTrace}
@@ -130,19 +130,25 @@ module _ {D : Type 0} (outside : D → Outside) (crash_states : D → CrashState
   next_is : named ≡ next
   next_is = ap (λ (m : List ℕ). let a : Anchor = (c.count, m) in a) (sym shown.mark)
 
+  abbrev TakenAs : List WrittenPiece → Anchor → Type 0
+  TakenAs ws a = (is : IsTaken ws store a history from taken step.to) × (next ≡ (is.commit.count, sha256 is.text))
+
   -- The commit is the one that is taken.
-  is_taken : IsTaken (outside begun).trace.written store (outside begun).anchor history from taken step.to
-  is_taken = subst (λ (a : Anchor). IsTaken (outside begun).trace.written store a history from taken step.to) (sym anchor)
-      (subst (λ (ws : List WrittenPiece). IsTaken ws store head history from taken step.to) (sym written) (record {
-        text = text;
-        commit = c;
-        pending = pending;
-        changes = step.changes;
-        list = step.commit.list;
-        allowed = step.commit.allowed;
-        one = refl;
-        log = step.whole;
-      }))
+  is_taken : TakenAs (outside begun).trace.written (outside begun).anchor
+  is_taken = subst (λ (a : Anchor). TakenAs (outside begun).trace.written a) (sym anchor)
+      (subst (λ (ws : List WrittenPiece). TakenAs ws head) (sym written) (
+        record {
+          text = text;
+          commit = c;
+          pending = pending;
+          changes = step.changes;
+          list = step.commit.list;
+          allowed = step.commit.allowed;
+          one = refl;
+          log = step.whole;
+        },
+        sym next_is,
+      ))
 
   entries : step.commit.list.entries ≡ p.entries.items
   entries = entries_are t store.secret unforged c step.changes step.commit.list shown.second.bytes
@@ -152,6 +158,9 @@ module _ {D : Type 0} (outside : D → Outside) (crash_states : D → CrashState
   leads = subst (λ (a : Anchor). Leads store t.written t.written taken [] head a) next_is
       (pending_leads store.secret t unforged kept head text c pending.was_written pending.accepted pending.kind pending.count
       (inr (later store t unforged kept head text c pending history from of_head, pending.mark)) store refl step.changes step.commit.list)
+
+  more : CountsOn store t.written head next
+  more before last log = omega (arith, pending.count)
 
   is_named : IsAnchored t.written store.secret next
   is_named = inr (record {
@@ -186,11 +195,12 @@ module _ {D : Type 0} (outside : D → Outside) (crash_states : D → CrashState
           (sym (whole.sure honest i head left ∙ whole.seen.only.image was_honest)) (whole.seen.stood was_honest)
 
   -- Where memory ran out, nothing was done yet.
-  pub taken_memory : (e : OpenError) → HasTaken outside crash_states begun old old store history from (Err e)
+  pub taken_memory : (e : OpenError) → HasTaken outside crash_states begun old old store history from next (Err e)
   taken_memory e = record {
     taken = taken;
     to = step.to;
-    is = is_taken;
+    is = is_taken.0;
+    same = is_taken.1;
     ran = record {
       ok = tt;
       begun = ran_wider outside crash_states counts numbered store old old [] taken
@@ -209,15 +219,16 @@ module _ {D : Type 0} (outside : D → Outside) (crash_states : D → CrashState
       (time : Elapses (outside old) (outside new) (crash_states old) (crash_states new)) where
     advancing : RanStep outside crash_states store taken old new result
     advancing = advance_ran outside crash_states counts numbered store old new next taken whole.settled (λ _. leads) (λ _. is_named)
-        (λ _. stand) trace pairs time result told_of advanced only either
+        (λ _. more) (λ _. stand) trace pairs time result told_of advanced only either
 
     -- Where the advance failed, it may have been done.
     pub taken_fault : (e : E) → result ≡ Err e → (error : OpenError)
-        → HasTaken outside crash_states begun old new store history from (Err error)
+        → HasTaken outside crash_states begun old new store history from next (Err error)
     taken_fault e is error = record {
       taken = taken;
       to = step.to;
-      is = is_taken;
+      is = is_taken.0;
+      same = is_taken.1;
       ran = record {
         ok = tt;
         begun = subst (λ (r : Result T E). OnErr r (RanOn outside crash_states store old [] taken new)) is advancing.begun;
@@ -268,7 +279,7 @@ module _ {D : Type 0} (outside : D → Outside) (crash_states : D → CrashState
       }
 
       -- Where the anchor was advanced, the log has the commit for its last.
-      pub taken_made : (x : T) → result ≡ Ok x → HasTaken outside crash_states begun old new store history from (Ok r)
+      pub taken_made : (x : T) → result ≡ Ok x → HasTaken outside crash_states begun old new store history from next (Ok r)
       taken_made x is =
           let at : (outside new).anchor ≡ next = subst (λ (s : Result T E). OnOk s ((outside new).anchor ≡ next)) is (advanced tells) in
           let here : named ≡ (outside new).anchor = next_is ∙ sym at in
@@ -276,7 +287,8 @@ module _ {D : Type 0} (outside : D → Outside) (crash_states : D → CrashState
           record {
             taken = taken;
             to = step.to;
-            is = is_taken;
+            is = is_taken.0;
+            same = is_taken.1;
             ran = record {
               ok = subst (λ (s : Result T E). OnOk s (RanOn outside crash_states store old taken [] new)) is advancing.ok;
               begun = tt;

@@ -99,7 +99,8 @@ abbrev pub StoodIn : List ℕ → ReadPiece → Type 0
 StoodIn image r = r.bytes ≡ take r.asked (drop r.place image)
 
 -- Between two values of a platform it was asked for these reads and nothing else, and none failed.
-pub record HasSeen {D : Type 0} (outside : D → Outside) (crash_states : D → CrashStates) (old new : D) (reads : List ReadPiece) : Type 0 where
+pub record HasSeen {D : Type 0} (outside : D → Outside) (crash_states : D
+    → CrashStates) (old new : D) (reads : List ReadPiece) : Type 0 where
   pub only : OnlyReads outside crash_states old new
   pub told : IsTrue (outside old).tells → (outside new).trace.read ≡ (outside old).trace.read ++ reads
   pub stood : IsTrue (outside old).honest → AllByRecursion (StoodIn (outside old).image) reads
@@ -108,7 +109,8 @@ pub record HasSeen {D : Type 0} (outside : D → Outside) (crash_states : D → 
 -- It was only read, up to a fault or until memory ran out.
 pub record HasStopped {D : Type 0} (outside : D → Outside) (crash_states : D → CrashStates) (old new : D) (error : OpenError) : Type 0 where
   pub only : OnlyReads outside crash_states old new
-  pub cause : ((error ≡ Fault) × Rose (outside old).faults (outside new).faults) ⊎ ((error ≡ Memory) × ((outside new).faults ≡ (outside old).faults))
+  pub cause : ((error ≡ Fault) × Rose (outside old).faults (outside new).faults)
+      ⊎ ((error ≡ Memory) × ((outside new).faults ≡ (outside old).faults))
 
 -- It was only read, and the reads and what they gave rise to belong together.
 abbrev pub Sees : {D T : Type 0} → (D → Outside) → (D → CrashStates) → D → D → Result T OpenError → (List ReadPiece → T → Type 0) → Type 0

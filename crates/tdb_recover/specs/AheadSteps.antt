@@ -19,4 +19,5 @@ IsFoundIn secret log bytes (Some m) = IsMember secret log bytes m.commit × (m.m
 
 -- one read, of the next slot, and what was found there
 abbrev pub IsFoundBy : List ℕ → Recovered → List ReadPiece → Option Member → Type 0
-IsFoundBy secret log reads found = (bytes : List ℕ) × IsOneRead (slot_place (log.head.count + 1)) 256 bytes reads × IsFoundIn secret log bytes found
+IsFoundBy secret log reads found = (bytes : List ℕ) × IsOneRead (slot_place (log.head.count + 1)) 256 bytes reads
+    × IsFoundIn secret log bytes found

@@ -52,7 +52,8 @@ pub record IsTextOf (written : List WrittenPiece) (trace : Trace) (secret mark :
   pub reads : commit_of (commit_key_of secret) text ≡ Some c
 
 -- A text and those after it are the end of a chain. What stands before it ends at its `prev`.
-pub record EndsWith (written : List WrittenPiece) (secret : List ℕ) (chain : List Commit) (text : Commit) (later : List Commit) : Type 0 where
+pub record EndsWith (written : List WrittenPiece) (secret : List ℕ) (chain : List Commit) (text : Commit)
+    (later : List Commit) : Type 0 where
   pub front : List Commit
   pub before : commit_chain written (commit_of (commit_key_of secret)) (text.count - 1) text.prev.0 ≡ Some front
   pub parts : chain ≡ front ++ text ∷ later

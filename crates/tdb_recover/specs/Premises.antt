@@ -19,4 +19,5 @@ pub record Premises (old new : Outside) (secret : List ℕ) (store : Store) (his
   pub unforged : IsUnforged new.trace (commit_of (commit_key_of store.secret))
   pub formed : IsWellFormedTrace old.trace.written store.secret
   pub log : IsLog old.trace.written store old.anchor history last
-  pub first : old.anchor.0 ≡ 0 → (text : List ℕ) (c : Commit) → WasWritten old.trace.written text → IsAccepted store.secret text c → c.count ≤ 1
+  pub first : old.anchor.0 ≡ 0 → (text : List ℕ) (c : Commit) → WasWritten old.trace.written text → IsAccepted store.secret text c
+      → c.count ≤ 1

@@ -13,7 +13,8 @@ use Rattle.tdb_overlay.specs.Found.{in_trace}
 use Rattle.tdb_overlay.specs.Keys.{system_key}
 
 -- The piece is the record of a plain text under the system's key, and the trace has no collision and no forgery.
-pub record IsRecordIn (written : List WrittenPiece) (trace : Trace) (secret : List ℕ) (name : Name) (piece : Piece) (plain : List ℕ) : Type 0 where
+pub record IsRecordIn (written : List WrittenPiece) (trace : Trace) (secret : List ℕ) (name : Name) (piece : Piece)
+    (plain : List ℕ) : Type 0 where
   pub unforged : IsUnforged trace (commit_of (commit_key_of secret))
   pub sealed : List ℕ
   pub found : in_trace written piece sealed

@@ -32,7 +32,8 @@ pub record IsReplayOf (finds : Finds) (store : Store) (r : Recovered) (s : Store
 
 -- The text is that of a commit on a state of the store, the log of an anchor needs the records that its list names, and
 -- the trace has no collision and no forgery.
-pub record IsCommitIn (written : List WrittenPiece) (trace : Trace) (secret : List ℕ) (store : Store) (anchor : Anchor) (before : StoreState) (c : Commit) (changes : List Change) (after : StoreState) : Type 0 where
+pub record IsCommitIn (written : List WrittenPiece) (trace : Trace) (secret : List ℕ) (store : Store) (anchor : Anchor)
+    (before : StoreState) (c : Commit) (changes : List Change) (after : StoreState) : Type 0 where
   pub keys : store.secret ≡ secret
   pub unforged : IsUnforged trace (commit_of (commit_key_of secret))
   pub suite : c.suite ≡ store.suite

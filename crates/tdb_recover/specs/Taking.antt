@@ -1,8 +1,9 @@
 -- Taking a commit that was begun behind a log.
 use Rattle.std.specs.Prelude.{◌≡◌, ℕ, true, List, ◌++◌, Result, IfOk}
+use Rattle.sha2.specs.Sha256.{sha256}
 use Rattle.tdb_base.specs.Trace.{ReadPiece}
 use Rattle.tdb_model.specs.Apply.{History}
-use Rattle.tdb_platform.specs.Outside.{Outside}
+use Rattle.tdb_platform.specs.Outside.{Anchor, Outside}
 use Rattle.tdb_platform.specs.CrashStates.{CrashStates}
 use Rattle.tdb_overlay.specs.Found.{Store}
 use Rattle.tdb_overlay.specs.Growth.{IsSettled}
@@ -33,12 +34,13 @@ pub record IsShownWhole {D : Type 0} (outside : D → Outside) (crash_states : D
   pub settled : IsSettled outside crash_states old
   pub sure : IsSure outside crash_states old
 
--- The commit was taken, or may have been after an error. Where it was, what is open is the state after it.
+-- The commit that an anchor names was taken, or may have been after an error. Where it was, what is open is the state after it.
 pub record HasTaken {D : Type 0} (outside : D → Outside) (crash_states : D → CrashStates) (begun old new : D) (store : Store)
-    (history : History) (from : StoreState) (result : Result Recovered OpenError) : Type 0 where
+    (history : History) (from : StoreState) (named : Anchor) (result : Result Recovered OpenError) : Type 0 where
   pub taken : History
   pub to : StoreState
   pub is : IsTaken (outside begun).trace.written store (outside begun).anchor history from taken to
+  pub same : named ≡ (is.commit.count, sha256 is.text)
   pub ran : RanStep outside crash_states store taken old new result
   pub log : IfOk result (λ _. IsLog (outside new).trace.written store (outside new).anchor (history ++ taken) to)
   pub knows : IfOk result (λ r. IsRecovered (needed (outside new).trace.written store (outside new).anchor) store r to)

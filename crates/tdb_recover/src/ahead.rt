@@ -21,7 +21,7 @@ use tdb_list::{Entry, ListError, read_list};
 use tdb_mark::{COMMIT, Commit, read_commit_with};
 use tdb_overlay::{Keys, Recovered};
 use tdb_platform::Platform;
-use tdb_seal::{Name, SealError, read_record};
+use tdb_seal::{Name, SealError};
 use tdb_seg::Segments;
 
 /// How many bytes a commit text has.
@@ -61,7 +61,8 @@ fn show<P: Platform>(
     length: u32,
 ) -> Result<Vec<u8>, OpenError>
     ensures most { ReadsAtMost 1 (P.outside platform.old) (P.outside platform.new) }
-    ensures asks { Sees P.outside P.crash_states platform.old platform.new result (λ reads bytes. IsOneRead place.0 length bytes.items reads) }
+    ensures asks { Sees P.outside P.crash_states platform.old platform.new result
+        (λ reads bytes. IsOneRead place.0 length bytes.items reads) }
 {
     let Ok(mut bytes) = vec![in alloc; 0u8; length as usize] else {
         return Err(OpenError::Memory);
@@ -163,7 +164,8 @@ fn list_in(
     bytes: &[u8],
 ) -> Result<Option<Vec<Entry>>, OpenError>
     ensures some { IfOk result (λ found. IfSome found (λ entries. IsMemberList keys.now log.now commit.now bytes.now entries.items)) }
-    ensures none { IfOk result (λ found. IfNone found ((entries : List EntryValue) → IsMemberList keys.now log.now commit.now bytes.now entries → ⊥)) }
+    ensures none { IfOk result (λ found. IfNone found ((entries : List EntryValue)
+        → IsMemberList keys.now log.now commit.now bytes.now entries → ⊥)) }
     ensures memory { IfErr result (λ error. error ≡ Memory) }
 {
     if !has_digest(bytes, &commit.first.digest) {
@@ -175,7 +177,7 @@ fn list_in(
         home: 0,
         rank: 0,
     };
-    let plain = match read_record(alloc, keys.system(), &name, bytes) {
+    let plain = match keys.read_system(alloc, &name, bytes) {
         Ok(plain) => plain,
         Err(SealError::Form) => return Ok(None),
         Err(SealError::Memory) => return Err(OpenError::Memory),
@@ -226,7 +228,8 @@ fn ask_list<P: Platform>(
     commit: &Commit,
 ) -> Result<Option<Vec<Entry>>, OpenError>
     ensures most { ReadsAtMost 1025 (P.outside platform.old) (P.outside platform.new) }
-    ensures asks { Sees P.outside P.crash_states platform.old platform.new result (λ reads found. AsksList keys.now log.now commit.now reads (is_some found)
+    ensures asks { Sees P.outside P.crash_states platform.old platform.new result
+        (λ reads found. AsksList keys.now log.now commit.now reads (is_some found)
         × IfSome found (λ entries. IsListed keys.now log.now commit.now entries.items reads)) }
 {
     let bytes = match show(alloc, platform, commit.first.place, commit.first.length) {
@@ -263,7 +266,8 @@ pub fn look_ahead<P: Platform>(
     ensures reads { OnlyReads P.outside P.crash_states platform.old platform.new }
     ensures settled { IsSettled P.outside P.crash_states platform.old → IsSettled P.outside P.crash_states platform.new }
     // what is asked for, and whether a commit is given, follows from what is shown; what is given is what was shown
-    ensures asks { Sees P.outside P.crash_states platform.old platform.new result (λ reads pending. AsksAhead keys.now log.now reads (is_some pending)
+    ensures asks { Sees P.outside P.crash_states platform.old platform.new result
+        (λ reads pending. AsksAhead keys.now log.now reads (is_some pending)
         × IfSome pending (IsAsShown keys.now log.now reads)) }
     // at most 1,026 pieces are read, and none where no commit may follow
     ensures most { ReadsAtMost 1026 (P.outside platform.old) (P.outside platform.new) }

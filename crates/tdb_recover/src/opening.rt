@@ -5,7 +5,7 @@ ghost use Rattle.tdb_base.specs.declared.piece.Place.{Place};
 ghost use Rattle.tdb_model.specs.Apply.{History};
 ghost use Rattle.tdb_overlay.specs.Found.{Store};
 ghost use Rattle.tdb_overlay.specs.Growth.{IsSettled};
-ghost use Rattle.tdb_overlay.specs.Images.{IsReliable};
+ghost use Rattle.tdb_overlay.specs.Images.{IsReliableUnder};
 ghost use Rattle.tdb_overlay.specs.Needed.{needed};
 ghost use Rattle.tdb_overlay.specs.Reading.{OnlyReads};
 ghost use Rattle.tdb_overlay.specs.Recovered.{HasCounts, IsRecovered};
@@ -45,15 +45,19 @@ fn open_log<P: Platform>(
     ensures reads { OnlyReads P.outside P.crash_states platform.old platform.new }
     ensures head { IfOk result (λ log. (log.head.count ≡ count) × (log.head.mark ≡ mark)) }
     ensures counts { IfOk result HasCounts }
-    ensures recovered { IfOk result (λ log. EachLog (P.outside platform.old) (P.outside platform.new) keys.now (λ whole. whole.anchor ≡ (count, mark.0)
+    ensures recovered { IfOk result (λ log. EachLog (P.outside platform.old) (P.outside platform.new) keys.now
+        (λ whole. whole.anchor ≡ (count, mark.0)
         → IsRecovered (needed (P.outside platform.old).trace.written whole.store whole.anchor) whole.store log whole.last)) }
-    ensures only { IfOk result (λ _. EachLog (P.outside platform.old) (P.outside platform.new) keys.now (λ whole. whole.anchor ≡ (count, mark.0)
+    ensures only { IfOk result (λ _. EachLog (P.outside platform.old) (P.outside platform.new) keys.now
+        (λ whole. whole.anchor ≡ (count, mark.0)
         → ReadsOnlyIn (P.outside platform.old) (P.outside platform.new) whole)) }
     ensures caused { IfErr result (IsCaused (P.outside platform.old) (P.outside platform.new)) }
     ensures most { ReadsAtMost 2002 (P.outside platform.old) (P.outside platform.new) }
-    ensures most_ok { IfOk result (λ log. ReadsAtMost (2 * (log.head.count - log.head.base) + 2) (P.outside platform.old) (P.outside platform.new)) }
+    ensures most_ok { IfOk result (λ log. ReadsAtMost (2 * (log.head.count - log.head.base) + 2) (P.outside platform.old)
+        (P.outside platform.new)) }
     ensures quiet { result ≢ Err Fault → (P.outside platform.new).faults ≡ (P.outside platform.old).faults }
-    ensures explained { IfErr result (λ error. EachLog (P.outside platform.old) (P.outside platform.new) keys.now (λ whole. whole.anchor ≡ (count, mark.0)
+    ensures explained { IfErr result (λ error. EachLog (P.outside platform.old) (P.outside platform.new) keys.now
+        (λ whole. whole.anchor ≡ (count, mark.0)
         → IsExplainedIn (P.outside platform.old) (P.outside platform.new) error whole)) }
 {
     let chain = read_chain(alloc, platform, keys, count, &mark)?;
@@ -120,23 +124,32 @@ pub fn read_log<P: Platform>(
     ensures settled { (result ≢ Err Fault) → IsSettled P.outside P.crash_states platform.new }
     ensures sure { OnOk result (IsSure P.outside P.crash_states platform.new) }
     ensures unformatted { result ≡ Err Unformatted → IsTrue (P.outside platform.old).tells → (P.outside platform.old).anchor.0 ≡ 0 }
-    ensures unformatted_always { IsTrue (P.outside platform.old).tells → (P.outside platform.old).anchor.0 ≡ 0 → (result ≡ Err Unformatted) ⊎ (result ≡ Err Fault) }
-    ensures at_head { IsTrue (P.outside platform.old).tells → IfOk result (λ log. (P.outside platform.old).anchor ≡ (log.head.count, log.head.mark.0)) }
+    ensures unformatted_always { IsTrue (P.outside platform.old).tells → (P.outside platform.old).anchor.0 ≡ 0
+        → (result ≡ Err Unformatted) ⊎ (result ≡ Err Fault) }
+    ensures at_head { IsTrue (P.outside platform.old).tells
+        → IfOk result (λ log. (P.outside platform.old).anchor ≡ (log.head.count, log.head.mark.0)) }
     ensures counts { IfOk result HasCounts }
     // what was recovered is the log's state, whatever the device showed, told by pieces that the log needs
-    ensures recovered { IfOk result (λ log. (store : Store) (history : History) (last : StoreState) → Premises (P.outside platform.old) (P.outside platform.new) keys.now store history last
+    ensures recovered { IfOk result (λ log. (store : Store) (history : History) (last : StoreState)
+        → Premises (P.outside platform.old) (P.outside platform.new) keys.now store history last
         → IsRecovered (needed (P.outside platform.old).trace.written store (P.outside platform.old).anchor) store log last) }
     // each piece is read whole, and none but the texts, the table and the lists that the log needs
-    ensures only_opening { IfOk result (λ log. (store : Store) (history : History) (last : StoreState) → Premises (P.outside platform.old) (P.outside platform.new) keys.now store history last
-        → ReadsOnly (IsOpeningPiece (P.outside platform.old).trace.written store (P.outside platform.old).anchor) (P.outside platform.old) (P.outside platform.new)) }
+    ensures only_opening { IfOk result (λ log. (store : Store) (history : History) (last : StoreState)
+        → Premises (P.outside platform.old) (P.outside platform.new) keys.now store history last
+        → ReadsOnly (IsOpeningPiece (P.outside platform.old).trace.written store (P.outside platform.old).anchor) (P.outside platform.old)
+        (P.outside platform.new)) }
     // at most the text of the last checkpoint and its table, and the text and the list of each commit behind it
     ensures most { ReadsAtMost 2002 (P.outside platform.old) (P.outside platform.new) }
-    ensures most_ok { IfOk result (λ log. ReadsAtMost (2 * (log.head.count - log.head.base) + 2) (P.outside platform.old) (P.outside platform.new)) }
+    ensures most_ok { IfOk result (λ log. ReadsAtMost (2 * (log.head.count - log.head.base) + 2) (P.outside platform.old)
+        (P.outside platform.new)) }
     // damage is told only of a text since the last checkpoint, of the table or of a list, and the last read of it showed it
-    ensures tampered { (damage : Damage) → result ≡ Err (Tampered damage) → (store : Store) (history : History) (last : StoreState) → Premises (P.outside platform.old) (P.outside platform.new) keys.now store history last
-        → IsDamageOf (P.outside platform.old) (P.outside platform.new) (IsOpeningPiece (P.outside platform.old).trace.written store (P.outside platform.old).anchor) damage }
+    ensures tampered { (damage : Damage) → result ≡ Err (Tampered damage) → (store : Store) (history : History) (last : StoreState)
+        → Premises (P.outside platform.old) (P.outside platform.new) keys.now store history last
+        → IsDamageOf (P.outside platform.old) (P.outside platform.new)
+        (IsOpeningPiece (P.outside platform.old).trace.written store (P.outside platform.old).anchor) damage }
     // a piece that has its digest fits the others
-    ensures form { (place : Place) → result ≡ Err (Form place) → (store : Store) (history : History) (last : StoreState) → Premises (P.outside platform.old) (P.outside platform.new) keys.now store history last → ⊥ }
+    ensures form { (place : Place) → result ≡ Err (Form place) → (store : Store) (history : History) (last : StoreState)
+        → Premises (P.outside platform.old) (P.outside platform.new) keys.now store history last → ⊥ }
     ensures fault { result ≡ Err Fault → Rose (P.outside platform.old).faults (P.outside platform.new).faults }
     // with any other answer there was no fault
     ensures quiet { result ≢ Err Fault → (P.outside platform.new).faults ≡ (P.outside platform.old).faults }
@@ -164,29 +177,39 @@ pub fn recover<P: Platform>(
     // the anchor was told or advanced, so a stop now leaves it, unless the platform failed
     ensures settled { (result ≢ Err Fault) → IsSettled P.outside P.crash_states platform.new }
     ensures unformatted { result ≡ Err Unformatted → IsTrue (P.outside platform.old).tells → (P.outside platform.old).anchor.0 ≡ 0 }
-    ensures unformatted_always { IsTrue (P.outside platform.old).tells → (P.outside platform.old).anchor.0 ≡ 0 → (result ≡ Err Unformatted) ⊎ (result ≡ Err Fault) }
+    ensures unformatted_always { IsTrue (P.outside platform.old).tells → (P.outside platform.old).anchor.0 ≡ 0
+        → (result ≡ Err Unformatted) ⊎ (result ≡ Err Fault) }
     ensures formatted { IsTrue (P.outside platform.old).tells → OnOk result ((P.outside platform.old).anchor.0 ≢ 0) }
-    ensures at_head { IsTrue (P.outside platform.old).tells → IfOk result (λ log. (P.outside platform.new).anchor ≡ (log.head.count, log.head.mark.0)) }
+    ensures at_head { IsTrue (P.outside platform.old).tells
+        → IfOk result (λ log. (P.outside platform.new).anchor ≡ (log.head.count, log.head.mark.0)) }
     ensures counts { IfOk result HasCounts }
     // what is open is the anchor's log, and behind it at most one commit that was begun there, whatever the device showed
-    ensures recovered { IfOk result (λ log. (store : Store) (history : History) (from : StoreState) → Premises (P.outside platform.old) (P.outside platform.new) keys.now store history from
+    ensures recovered { IfOk result (λ log. (store : Store) (history : History) (from : StoreState)
+        → Premises (P.outside platform.old) (P.outside platform.new) keys.now store history from
         → HasRecovered P.outside P.crash_states platform.old platform.new store history from log) }
-    ensures not_recovered { IfErr result (λ _. (store : Store) (history : History) (from : StoreState) → Premises (P.outside platform.old) (P.outside platform.new) keys.now store history from
+    ensures not_recovered { IfErr result (λ _. (store : Store) (history : History) (from : StoreState)
+        → Premises (P.outside platform.old) (P.outside platform.new) keys.now store history from
         → HasNotRecovered P.outside P.crash_states platform.old platform.new store history from) }
-    // after an error the anchor is as it was, or it names the commit that was shown whole
-    ensures anchor_err { IsTrue (P.outside platform.old).tells → IfErr result (λ _. StaysOrTakes (P.outside platform.old) (P.outside platform.new) keys.now) }
+    // after an error it was only read, or the anchor is as it was or names the commit that was shown whole
+    ensures anchor_err { IsTrue (P.outside platform.old).tells
+        → IfErr result (λ _. StaysOrTakes P.outside P.crash_states platform.old platform.new keys.now) }
     // what is read behind the log, and whether a commit is taken, follows from what is shown
-    ensures ahead { IsTrue (P.outside platform.old).tells → IfOk result (HasLookedAhead (P.outside platform.old) (P.outside platform.new) keys.now) }
+    ensures ahead { IsTrue (P.outside platform.old).tells
+        → IfOk result (HasLookedAhead (P.outside platform.old) (P.outside platform.new) keys.now) }
     // at most 3,026 pieces are read, whatever the device shows
     ensures most { ReadsAtMost 3026 (P.outside platform.old) (P.outside platform.new) }
     // damage is told only of a text since the last checkpoint, of the table or of a list, and the last read of it showed it
-    ensures tampered { (damage : Damage) → result ≡ Err (Tampered damage) → (store : Store) (history : History) (from : StoreState) → Premises (P.outside platform.old) (P.outside platform.new) keys.now store history from
-        → IsDamageOf (P.outside platform.old) (P.outside platform.new) (IsOpeningPiece (P.outside platform.old).trace.written store (P.outside platform.old).anchor) damage }
+    ensures tampered { (damage : Damage) → result ≡ Err (Tampered damage) → (store : Store) (history : History) (from : StoreState)
+        → Premises (P.outside platform.old) (P.outside platform.new) keys.now store history from
+        → IsDamageOf (P.outside platform.old) (P.outside platform.new)
+        (IsOpeningPiece (P.outside platform.old).trace.written store (P.outside platform.old).anchor) damage }
     // on a reliable platform no damage is told
-    ensures reliable { (damage : Damage) → result ≡ Err (Tampered damage) → (store : Store) (history : History) (from : StoreState) → Premises (P.outside platform.old) (P.outside platform.new) keys.now store history from
-        → IsReliable P.outside P.crash_states store platform.old → ⊥ }
+    ensures reliable { (damage : Damage) → result ≡ Err (Tampered damage) → (store : Store) (history : History) (from : StoreState)
+        → Premises (P.outside platform.old) (P.outside platform.new) keys.now store history from
+        → IsReliableUnder P.outside P.crash_states keys.now platform.old → ⊥ }
     // a piece that has its digest fits the others
-    ensures form { (place : Place) → result ≡ Err (Form place) → (store : Store) (history : History) (from : StoreState) → Premises (P.outside platform.old) (P.outside platform.new) keys.now store history from → ⊥ }
+    ensures form { (place : Place) → result ≡ Err (Form place) → (store : Store) (history : History) (from : StoreState)
+        → Premises (P.outside platform.old) (P.outside platform.new) keys.now store history from → ⊥ }
     ensures fault { result ≡ Err Fault → Rose (P.outside platform.old).faults (P.outside platform.new).faults }
     // with any other answer there was no fault
     ensures quiet { result ≢ Err Fault → (P.outside platform.new).faults ≡ (P.outside platform.old).faults }

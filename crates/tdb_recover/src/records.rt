@@ -21,7 +21,7 @@ use tdb_mark::Commit;
 use tdb_node::read_table;
 use tdb_overlay::{Keys, fetch};
 use tdb_platform::Platform;
-use tdb_seal::{Name, SealError, read_record};
+use tdb_seal::{Name, SealError};
 use tdb_seg::Segments;
 
 /// The kind of the record of a segment table.
@@ -40,8 +40,10 @@ fn open_record<P: Platform>(
 ) -> Result<Vec<u8>, OpenError>
     ensures reads { OnlyReads P.outside P.crash_states platform.old platform.new }
     ensures plain { IsTrue (P.outside platform.old).tells → IfOk result (λ bytes. (plain : List ℕ)
-        → IsRecordIn (P.outside platform.old).trace.written (P.outside platform.new).trace keys.now name.now piece.now plain → bytes.items ≡ plain) }
-    ensures only { IsTrue (P.outside platform.old).tells → IfOk result (λ _. ReadsOnly (λ p. p ≡ piece.now) (P.outside platform.old) (P.outside platform.new)) }
+        → IsRecordIn (P.outside platform.old).trace.written (P.outside platform.new).trace keys.now name.now piece.now plain
+        → bytes.items ≡ plain) }
+    ensures only { IsTrue (P.outside platform.old).tells
+        → IfOk result (λ _. ReadsOnly (λ p. p ≡ piece.now) (P.outside platform.old) (P.outside platform.new)) }
     ensures caused { IfErr result (IsCaused (P.outside platform.old) (P.outside platform.new)) }
     ensures most { ReadsAtMost 1 (P.outside platform.old) (P.outside platform.new) }
     ensures quiet { result ≢ Err Fault → (P.outside platform.new).faults ≡ (P.outside platform.old).faults }
@@ -50,7 +52,7 @@ fn open_record<P: Platform>(
         → IsExplained (P.outside platform.old) (P.outside platform.new) (λ p. p ≡ piece.now) error) }
 {
     let bytes = fetch(alloc, platform, piece)?;
-    match read_record(alloc, keys.system(), name, bytes.as_slice()) {
+    match keys.read_system(alloc, name, bytes.as_slice()) {
         Ok(plain) => Ok(plain),
         Err(SealError::Form) => Err(OpenError::Form { place: piece.place }),
         Err(SealError::Memory) => Err(OpenError::Memory),
@@ -67,8 +69,10 @@ pub(crate) fn read_segments<P: Platform>(
     requires { IsInFormat text.now }
     ensures reads { OnlyReads P.outside P.crash_states platform.old platform.new }
     ensures segments { IsTrue (P.outside platform.old).tells → IfOk result (λ segments.
-        (given : IsTableIn (P.outside platform.old).trace.written (P.outside platform.new).trace keys.now text.now) → segments ≡ table_space given.table.table (end_of text.now.first)) }
-    ensures only { IsTrue (P.outside platform.old).tells → IfOk result (λ _. ReadsOnly (λ p. p ≡ text.now.first) (P.outside platform.old) (P.outside platform.new)) }
+        (given : IsTableIn (P.outside platform.old).trace.written (P.outside platform.new).trace keys.now text.now)
+        → segments ≡ table_space given.table.table (end_of text.now.first)) }
+    ensures only { IsTrue (P.outside platform.old).tells
+        → IfOk result (λ _. ReadsOnly (λ p. p ≡ text.now.first) (P.outside platform.old) (P.outside platform.new)) }
     ensures caused { IfErr result (IsCaused (P.outside platform.old) (P.outside platform.new)) }
     ensures most { ReadsAtMost 1 (P.outside platform.old) (P.outside platform.new) }
     ensures quiet { result ≢ Err Fault → (P.outside platform.new).faults ≡ (P.outside platform.old).faults }
@@ -110,13 +114,16 @@ pub(crate) fn read_entries<P: Platform>(
     ensures list { IfOk result (λ entries. IsList entries.items) }
     ensures lies { IfOk result (λ _. LiesBelow segments.now.segments text.now.first) }
     ensures entries { IsTrue (P.outside platform.old).tells → IfOk result (λ entries. (changes : List Change)
-        → (given : IsListIn (P.outside platform.old).trace.written (P.outside platform.new).trace keys.now text.now changes) → entries.items ≡ given.list.entries) }
-    ensures only { IsTrue (P.outside platform.old).tells → IfOk result (λ _. ReadsOnly (λ p. p ≡ text.now.first) (P.outside platform.old) (P.outside platform.new)) }
+        → (given : IsListIn (P.outside platform.old).trace.written (P.outside platform.new).trace keys.now text.now changes)
+        → entries.items ≡ given.list.entries) }
+    ensures only { IsTrue (P.outside platform.old).tells
+        → IfOk result (λ _. ReadsOnly (λ p. p ≡ text.now.first) (P.outside platform.old) (P.outside platform.new)) }
     ensures caused { IfErr result (IsCaused (P.outside platform.old) (P.outside platform.new)) }
     ensures most { ReadsAtMost 1 (P.outside platform.old) (P.outside platform.new) }
     ensures quiet { result ≢ Err Fault → (P.outside platform.new).faults ≡ (P.outside platform.old).faults }
     ensures explained { IsTrue (P.outside platform.old).tells → IfErr result (λ error. (changes : List Change)
-        → IsListIn (P.outside platform.old).trace.written (P.outside platform.new).trace keys.now text.now changes → LiesBelow segments.now.segments text.now.first
+        → IsListIn (P.outside platform.old).trace.written (P.outside platform.new).trace keys.now text.now changes
+        → LiesBelow segments.now.segments text.now.first
         → IsExplained (P.outside platform.old) (P.outside platform.new) (λ p. p ≡ text.now.first) error) }
 {
     let place = text.first.place;

@@ -59,15 +59,21 @@ fn replay_list<P: Platform>(
     ensures reads { OnlyReads P.outside P.crash_states platform.old platform.new }
     ensures head { OnOk result (log.new.head ≡ log.old.head) }
     ensures suite { OnOk result (log.new.suite ≡ log.old.suite) }
-    ensures replayed { IsTrue (P.outside platform.old).tells → OnOk result ((store : Store) (anchor : Anchor) (before : StoreState) (changes : List Change) (after : StoreState)
-        → IsCommitIn (P.outside platform.old).trace.written (P.outside platform.new).trace keys.now store anchor before text.now changes after
-        → IsReplayOf (needed (P.outside platform.old).trace.written store anchor) store log.old before → IsReplayOf (needed (P.outside platform.old).trace.written store anchor) store log.new after) }
-    ensures only { IsTrue (P.outside platform.old).tells → OnOk result (ReadsOnly (λ p. p ≡ text.now.first) (P.outside platform.old) (P.outside platform.new)) }
+    ensures replayed { IsTrue (P.outside platform.old).tells
+        → OnOk result ((store : Store) (anchor : Anchor) (before : StoreState) (changes : List Change) (after : StoreState)
+        → IsCommitIn (P.outside platform.old).trace.written
+        (P.outside platform.new).trace keys.now store anchor before text.now changes after
+        → IsReplayOf (needed (P.outside platform.old).trace.written store anchor) store log.old before
+        → IsReplayOf (needed (P.outside platform.old).trace.written store anchor) store log.new after) }
+    ensures only { IsTrue (P.outside platform.old).tells
+        → OnOk result (ReadsOnly (λ p. p ≡ text.now.first) (P.outside platform.old) (P.outside platform.new)) }
     ensures caused { IfErr result (IsCaused (P.outside platform.old) (P.outside platform.new)) }
     ensures most { ReadsAtMost 1 (P.outside platform.old) (P.outside platform.new) }
     ensures quiet { result ≢ Err Fault → (P.outside platform.new).faults ≡ (P.outside platform.old).faults }
-    ensures explained { IsTrue (P.outside platform.old).tells → IfErr result (λ error. (store : Store) (anchor : Anchor) (before : StoreState) (changes : List Change) (after : StoreState)
-        → IsCommitIn (P.outside platform.old).trace.written (P.outside platform.new).trace keys.now store anchor before text.now changes after
+    ensures explained { IsTrue (P.outside platform.old).tells
+        → IfErr result (λ error. (store : Store) (anchor : Anchor) (before : StoreState) (changes : List Change) (after : StoreState)
+        → IsCommitIn (P.outside platform.old).trace.written
+        (P.outside platform.new).trace keys.now store anchor before text.now changes after
         → IsReplayOf (needed (P.outside platform.old).trace.written store anchor) store log.old before
         → IsExplained (P.outside platform.old) (P.outside platform.new) (λ p. p ≡ text.now.first) error) }
 {

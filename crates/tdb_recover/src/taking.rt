@@ -44,17 +44,21 @@ pub fn take<P: Platform>(
     ensures unread { IsTrue (P.outside platform.old).tells → (P.outside platform.new).trace ≡ (P.outside platform.old).trace }
     ensures errors { IfErr result (λ error. (error ≡ Fault) ⊎ (error ≡ Memory)) }
     ensures memory { result ≡ Err Memory → platform.new ≡ platform.old }
-    ensures either { IsTrue (P.outside platform.old).tells → IfErr result (λ _. ((P.outside platform.new).anchor ≡ (P.outside platform.old).anchor)
+    ensures either { IsTrue (P.outside platform.old).tells
+        → IfErr result (λ _. ((P.outside platform.new).anchor ≡ (P.outside platform.old).anchor)
         ⊎ ((P.outside platform.new).anchor ≡ (pending.commit.count, pending.mark.0))) }
     // the anchor names the commit, and a stop leaves that
     ensures settled { IfOk result (λ _. IsSettled P.outside P.crash_states platform.new) }
-    ensures at_head { IsTrue (P.outside platform.old).tells → IfOk result (λ r. (P.outside platform.new).anchor ≡ (r.head.count, r.head.mark.0)) }
+    ensures at_head { IsTrue (P.outside platform.old).tells
+        → IfOk result (λ r. (P.outside platform.new).anchor ≡ (r.head.count, r.head.mark.0)) }
     ensures head { IfOk result (λ r. r.head ≡ record { count = pending.commit.count; mark = pending.mark; base = log.head.base }) }
+    ensures kept { IfOk result (λ r. (r.suite ≡ log.suite) × (r.segments.segments ≡ log.segments.segments)) }
     ensures counts { IfOk result HasCounts }
     // where the commit was shown whole behind a log, it is a step of that log, and what is open is the state after it
     ensures taken { (begun : P) (secret : List ℕ) (store : Store) (history : History) (from : StoreState)
         → IsShownWhole P.outside P.crash_states begun platform.old (P.outside platform.new) secret log pending store history from
-        → HasTaken P.outside P.crash_states begun platform.old platform.new store history from result }
+        → HasTaken P.outside P.crash_states begun platform.old platform.new store history from (pending.commit.count, pending.mark.0)
+        result }
     ensures fault { result ≡ Err Fault → Rose (P.outside platform.old).faults (P.outside platform.new).faults }
     ensures quiet { result ≢ Err Fault → (P.outside platform.new).faults ≡ (P.outside platform.old).faults }
 {

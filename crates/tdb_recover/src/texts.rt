@@ -40,13 +40,17 @@ fn read_text<P: Platform>(
     ensures format { IfOk result IsInFormat }
     ensures text { IsTrue (P.outside platform.old).tells → IfOk result (λ text. (c : Commit)
         → IsTextOf (P.outside platform.old).trace.written (P.outside platform.new).trace keys.now mark.now.0 c → text ≡ c) }
-    ensures only { IsTrue (P.outside platform.old).tells → IfOk result (λ _. ReadsOnly (λ piece. piece ≡ record { place = record { 0 = slot_place count }; length = 256; digest = mark.now }) (P.outside platform.old) (P.outside platform.new)) }
+    ensures only { IsTrue (P.outside platform.old).tells
+        → IfOk result (λ _. ReadsOnly (λ piece. piece
+        ≡ record { place = record { 0 = slot_place count }; length = 256; digest = mark.now }) (P.outside platform.old)
+        (P.outside platform.new)) }
     ensures caused { IfErr result (IsCaused (P.outside platform.old) (P.outside platform.new)) }
     ensures most { ReadsAtMost 1 (P.outside platform.old) (P.outside platform.new) }
     ensures quiet { result ≢ Err Fault → (P.outside platform.new).faults ≡ (P.outside platform.old).faults }
     ensures explained { IsTrue (P.outside platform.old).tells → IfErr result (λ error. (c : Commit)
         → IsTextOf (P.outside platform.old).trace.written (P.outside platform.new).trace keys.now mark.now.0 c
-        → IsExplained (P.outside platform.old) (P.outside platform.new) (λ piece. piece ≡ record { place = record { 0 = slot_place count }; length = 256; digest = mark.now }) error) }
+        → IsExplained (P.outside platform.old) (P.outside platform.new)
+        (λ piece. piece ≡ record { place = record { 0 = slot_place count }; length = 256; digest = mark.now }) error) }
 {
     let bytes = fetch_text(platform, count, mark)?;
     match read_commit_with(&bytes, keys.commit()) {
@@ -68,14 +72,17 @@ fn read_newest<P: Platform>(
     ensures reads { OnlyReads P.outside P.crash_states platform.old platform.new }
     ensures format { IfOk result IsInFormat }
     ensures counts { IfOk result (λ text. (text.count ≡ count) × (count ≤ text.base + 1000)) }
-    ensures ends { IfOk result (λ text. EachLog (P.outside platform.old) (P.outside platform.new) keys.now (λ log. log.anchor ≡ (count, mark.now.0)
+    ensures ends { IfOk result (λ text. EachLog (P.outside platform.old) (P.outside platform.new) keys.now
+        (λ log. log.anchor ≡ (count, mark.now.0)
         → EndsWith (P.outside platform.old).trace.written keys.now log.chain text [])) }
-    ensures only { IfOk result (λ _. EachLog (P.outside platform.old) (P.outside platform.new) keys.now (λ log. log.anchor ≡ (count, mark.now.0)
+    ensures only { IfOk result (λ _. EachLog (P.outside platform.old) (P.outside platform.new) keys.now
+        (λ log. log.anchor ≡ (count, mark.now.0)
         → ReadsOnlyIn (P.outside platform.old) (P.outside platform.new) log)) }
     ensures caused { IfErr result (IsCaused (P.outside platform.old) (P.outside platform.new)) }
     ensures most { ReadsAtMost 1 (P.outside platform.old) (P.outside platform.new) }
     ensures quiet { result ≢ Err Fault → (P.outside platform.new).faults ≡ (P.outside platform.old).faults }
-    ensures explained { IfErr result (λ error. EachLog (P.outside platform.old) (P.outside platform.new) keys.now (λ log. log.anchor ≡ (count, mark.now.0)
+    ensures explained { IfErr result (λ error. EachLog (P.outside platform.old) (P.outside platform.new) keys.now
+        (λ log. log.anchor ≡ (count, mark.now.0)
         → IsExplainedIn (P.outside platform.old) (P.outside platform.new) error log)) }
 {
     let text = read_text(platform, keys, count, mark)?;
@@ -109,7 +116,8 @@ fn read_before<P: Platform>(
     ensures caused { IfErr result (IsCaused (P.outside platform.old) (P.outside platform.new)) }
     ensures most { ReadsAtMost 1 (P.outside platform.old) (P.outside platform.new) }
     ensures quiet { result ≢ Err Fault → (P.outside platform.new).faults ≡ (P.outside platform.old).faults }
-    ensures explained { IfErr result (λ error. EachLog (P.outside platform.old) (P.outside platform.new) keys.now (λ log. (later : List Commit)
+    ensures explained { IfErr result (λ error. EachLog (P.outside platform.old) (P.outside platform.new) keys.now
+        (λ log. (later : List Commit)
         → EndsWith (P.outside platform.old).trace.written keys.now log.chain text.now later
         → IsExplainedIn (P.outside platform.old) (P.outside platform.new) error log)) }
 {
@@ -142,16 +150,20 @@ pub(crate) fn read_chain<P: Platform>(
     ensures base { IfOk result (λ chain. chain.base.base ≡ chain.base.count) }
     ensures counts { IfOk result (λ chain. (chain.base.count ≤ count) × (count ≤ chain.base.count + 1000)) }
     ensures commits { IfOk result (λ chain. AllByRecursion (IsBehind chain.base) (reverse chain.commits.items)) }
-    ensures ends { IfOk result (λ chain. EachLog (P.outside platform.old) (P.outside platform.new) keys.now (λ log. log.anchor ≡ (count, mark.now.0)
+    ensures ends { IfOk result (λ chain. EachLog (P.outside platform.old) (P.outside platform.new) keys.now
+        (λ log. log.anchor ≡ (count, mark.now.0)
         → EndsWith (P.outside platform.old).trace.written keys.now log.chain chain.base (reverse chain.commits.items))) }
-    ensures only { IfOk result (λ _. EachLog (P.outside platform.old) (P.outside platform.new) keys.now (λ log. log.anchor ≡ (count, mark.now.0)
+    ensures only { IfOk result (λ _. EachLog (P.outside platform.old) (P.outside platform.new) keys.now
+        (λ log. log.anchor ≡ (count, mark.now.0)
         → ReadsOnlyIn (P.outside platform.old) (P.outside platform.new) log)) }
     ensures caused { IfErr result (IsCaused (P.outside platform.old) (P.outside platform.new)) }
     ensures many { IfOk result (λ chain. length chain.commits.items + chain.base.count ≡ count) }
     ensures most { ReadsAtMost 1001 (P.outside platform.old) (P.outside platform.new) }
-    ensures most_ok { IfOk result (λ chain. ReadsAtMost (length chain.commits.items + 1) (P.outside platform.old) (P.outside platform.new)) }
+    ensures most_ok { IfOk result (λ chain. ReadsAtMost (length chain.commits.items + 1) (P.outside platform.old)
+        (P.outside platform.new)) }
     ensures quiet { result ≢ Err Fault → (P.outside platform.new).faults ≡ (P.outside platform.old).faults }
-    ensures explained { IfErr result (λ error. EachLog (P.outside platform.old) (P.outside platform.new) keys.now (λ log. log.anchor ≡ (count, mark.now.0)
+    ensures explained { IfErr result (λ error. EachLog (P.outside platform.old) (P.outside platform.new) keys.now
+        (λ log. log.anchor ≡ (count, mark.now.0)
         → IsExplainedIn (P.outside platform.old) (P.outside platform.new) error log)) }
 {
     let mut text = read_newest(platform, keys, count, mark)?;

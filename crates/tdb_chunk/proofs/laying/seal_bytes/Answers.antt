@@ -11,15 +11,15 @@ pub returns-clause-sealed : goal.returns-clause-sealed
 returns-clause-sealed c =
     let owner = c.args.owner.now in
     let key : List ℕ = partition_key c.args.keys.now owner.home owner.birth in
-    IfOk-weaker c.seal_record.result _ _
-    (λ bytes sealed. sealed_as key c.partition-key.result.0 (name_in owner c.args.rank.0) c.args.chunk.now c.as_slice.result.now bytes.items c.partition-key.ensures c.as_slice.ensures sealed)
-    c.seal_record.ensures
+    IfOk-weaker c.seal_chunk.result _ _
+    (λ bytes sealed. sealed_as key (name_in owner c.args.rank.0) c.args.chunk.now c.as_slice.result.now bytes.items c.as_slice.ensures sealed)
+    c.seal_chunk.ensures.sealed
 
 pub returns-clause-is_record : goal.returns-clause-is_record
 returns-clause-is_record c =
     let owner = c.args.owner.now in
     let key = c.requires.key in
-    IfOk-weaker c.seal_record.result _ _
+    IfOk-weaker c.seal_chunk.result _ _
     (λ bytes sealed. record {
       name = name_in owner c.args.rank.0;
       key = partition_key c.args.keys.now owner.home owner.birth;
@@ -33,14 +33,14 @@ pub returns-clause-size : goal.returns-clause-size
 returns-clause-size c =
     let owner = c.args.owner.now in
     let key : List ℕ = partition_key c.args.keys.now owner.home owner.birth in
-    IfOk-weaker c.seal_record.result _ _ (λ bytes sealed. sealed_length key (name_in owner c.args.rank.0) c.args.chunk.now bytes.items sealed) (returns-clause-sealed c)
+    IfOk-weaker c.seal_chunk.result _ _ (λ bytes sealed. sealed_length key (name_in owner c.args.rank.0) c.args.chunk.now bytes.items sealed) (returns-clause-sealed c)
 
 pub returns-clause-some : goal.returns-clause-some
 returns-clause-some c =
     let P : ℕ → Type 0 = λ n. 1 ≤ n in
-    IfOk-weaker c.seal_record.result _ _ (λ bytes size. subst P (sym size) (record_least c.args.owner.now.suite (length c.args.chunk.now))) (returns-clause-size c)
+    IfOk-weaker c.seal_chunk.result _ _ (λ bytes size. subst P (sym size) (record_least c.args.owner.now.suite (length c.args.chunk.now))) (returns-clause-size c)
 
 pub returns-clause-most : goal.returns-clause-most
 returns-clause-most c =
     let P : ℕ → Type 0 = λ n. n ≤ 262144 in
-    IfOk-weaker c.seal_record.result _ _ (λ bytes size. subst P (sym size) (record_most c.args.owner.now.suite (length c.args.chunk.now) c.requires.short)) (returns-clause-size c)
+    IfOk-weaker c.seal_chunk.result _ _ (λ bytes size. subst P (sym size) (record_most c.args.owner.now.suite (length c.args.chunk.now) c.requires.short)) (returns-clause-size c)

@@ -9,27 +9,27 @@ use Rattle.tdb_chunk.specs.Names.{list_name}
 use Rattle.tdb_chunk.proofs.Sealing.{sealed_as}
 use Rattle.tdb_chunk.proofs.records.seal_list.Goals as goal
 
-pub seal_record-requires : goal.seal_record-requires
-seal_record-requires c =
+pub seal_system-requires : goal.seal_system-requires
+seal_system-requires c =
     omega (arith, ap (λ (l : List ℕ). length l) (c.deref.ensures.value ∙ c.in_ok-list.ensures), length-list_bytes c.args.entries.now c.requires.values, c.requires.list.most)
 
 pub returns-clause-sealed : goal.returns-clause-sealed
 returns-clause-sealed c =
     let plain : List ℕ = list_bytes c.args.entries.now in
-    IfOk-weaker c.seal_record.result _ _
-    (λ bytes sealed. sealed_as (system_key c.args.keys.now) c.system.result.now.0 (list_name c.args.suite) plain c.deref.result.now bytes.items c.system.ensures (c.deref.ensures.value ∙ c.in_ok-list.ensures) sealed)
-    c.seal_record.ensures
+    IfOk-weaker c.seal_system.result _ _
+    (λ bytes sealed. sealed_as (system_key c.args.keys.now) (list_name c.args.suite) plain c.deref.result.now bytes.items (c.deref.ensures.value ∙ c.in_ok-list.ensures) sealed)
+    c.seal_system.ensures
 
 pub returns-clause-is_record : goal.returns-clause-is_record
 returns-clause-is_record c =
     let plain : List ℕ = list_bytes c.args.entries.now in
-    IfOk-weaker c.seal_record.result _ _
+    IfOk-weaker c.seal_system.result _ _
     (λ bytes sealed. record { name = list_name c.args.suite; key = system_key c.args.keys.now; plain = plain; key_for = inl ((refl, refl, inr refl), refl); sealed = sealed })
     (returns-clause-sealed c)
 
 pub returns-clause-size : goal.returns-clause-size
 returns-clause-size c =
     let plain : List ℕ = list_bytes c.args.entries.now in
-    IfOk-weaker c.seal_record.result _ _
+    IfOk-weaker c.seal_system.result _ _
     (λ bytes sealed. sealed_length (system_key c.args.keys.now) (list_name c.args.suite) plain bytes.items sealed ∙ ap (record_length c.args.suite) (length-list_bytes c.args.entries.now c.requires.values))
     (returns-clause-sealed c)

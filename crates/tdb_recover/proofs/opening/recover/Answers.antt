@@ -3,7 +3,7 @@ use Rattle.tdb_append.specs.declared.head.Head.{Head}
 use Rattle.tdb_base.specs.Trace.{Trace}
 use Rattle.tdb_overlay.proofs.ReadingLaws.{reads_then}
 use Rattle.tdb_recover.specs.declared.error.OpenError.TheVariants.{Fault}
-use Rattle.tdb_recover.proofs.Answering.{if_ok_as}
+use Rattle.tdb_recover.proofs.Answering.{if_ok_two}
 use Rattle.tdb_recover.proofs.Composing.{tells_then}
 use Rattle.tdb_recover.proofs.Counted.{most_as, most_opened, most_same}
 use Rattle.tdb_recover.proofs.Opened.{IsLogRead, known, looked, may_have_taken, ok_is_no_err, shown, stays_or_takes}
@@ -20,7 +20,7 @@ returns-in-Err-clause-not_recovered g c store history from given =
 pub returns-in-Err-clause-reliable : goal.returns-in-Err-clause-reliable
 returns-in-Err-clause-reliable g c damage answer store history from given =
     no_damage g.P.Platform.outside g.P.Platform.crash_states g.met.P.Platform.as_it_reads
-    c.args.platform.now (g.P.Platform.outside c.read_log.new.platform) store damage given.tells
+    c.args.platform.now (g.P.Platform.outside c.read_log.new.platform) c.args.keys.now store damage given.tells given.keys
     (c.in-Err.ensures.tampered damage answer store history from given)
 
 pub returns-in-Ok-Some-clause-unwritten : goal.returns-in-Ok-Some-clause-unwritten
@@ -70,7 +70,7 @@ returns-in-Ok-Some-clause-recovered g c =
     let asks = rw c.in-Ok-Some.field-0-is at sees.2 in
     let settled = c.look_ahead.ensures.settled read.settled in
     took_it outside states counts numbered old mid keys c.in-Ok.log read then new p sees.0 sees.1 asks.0 asks.1 settled
-    c.take.ensures.unwritten c.take.result (c.take.ensures.taken mid keys)
+    c.take.ensures.unwritten c.take.result (c.take.ensures.taken mid keys) c.take.ensures.at_head c.take.ensures.head
 
 pub returns-in-Ok-Some-clause-not_recovered : goal.returns-in-Ok-Some-clause-not_recovered
 returns-in-Ok-Some-clause-not_recovered g c =
@@ -96,7 +96,7 @@ returns-in-Ok-Some-clause-not_recovered g c =
     let asks = rw c.in-Ok-Some.field-0-is at sees.2 in
     let settled = c.look_ahead.ensures.settled read.settled in
     may_have_taken outside states counts numbered old mid keys c.in-Ok.log read then new p sees.0 sees.1 asks.0 asks.1 settled
-    c.take.ensures.unwritten c.take.result (c.take.ensures.taken mid keys)
+    c.take.ensures.unwritten c.take.result (c.take.ensures.taken mid keys) c.take.ensures.unread
 
 pub returns-in-Ok-Some-clause-ahead : goal.returns-in-Ok-Some-clause-ahead
 returns-in-Ok-Some-clause-ahead g c t =
@@ -125,8 +125,8 @@ returns-in-Ok-Some-clause-ahead g c t =
     let few = most_opened outside states c.in-Ok.log.head old mid then c.in-Ok.ensures.counts.commits read.reads sees.1.only
     c.in-Ok.ensures.most_ok c.look_ahead.ensures.most c.look_ahead.ensures.none in
     let at_then = tells_then outside states old mid read.reads t in
-    if_ok_as c.take.result _ _ c.take.ensures.head
-    (λ r is. looked outside states counts numbered old mid keys c.in-Ok.log read new r true sees.0 t
+    if_ok_two c.take.result _ _ _ c.take.ensures.head c.take.ensures.kept
+    (λ r is kept. looked outside states counts numbered old mid keys c.in-Ok.log read new r true sees.0 t
     (writes_then outside states counts mid then new sees.1.only c.take.ensures.unwritten)
     (most_same 3026 (outside old) (outside then) (outside new) few
     (λ told. c.take.ensures.unread (tells_then outside states old then both told)))
@@ -138,6 +138,9 @@ returns-in-Ok-Some-clause-ahead g c t =
         shown = asks.1;
         count = ap (λ (h : Head). h.count) is ∙ (shown keys c.in-Ok.log sees.0 p asks.0 asks.1).next;
         mark = ap (λ (h : Head). h.mark) is;
+        base = ap (λ (h : Head). h.base) is;
+        suite = kept.0;
+        segments = kept.1;
       },
     )))
 
@@ -267,7 +270,7 @@ returns-in-Err-look_ahead-clause-anchor_err g c t =
     let mid = c.read_log.new.platform in
     let then = c.look_ahead.new.platform in
     let both = reads_then outside states counts old mid then c.read_log.ensures.reads c.look_ahead.ensures.reads in
-    inl (both.anchor t)
+    inl both
 
 pub returns-in-Err-clause-most : goal.returns-in-Err-clause-most
 returns-in-Err-clause-most g c =

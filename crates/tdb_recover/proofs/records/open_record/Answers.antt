@@ -19,8 +19,7 @@ returns-in-Ok-clause-plain g c t plain given =
     let piece = c.args.piece.now in
     let is = read_is (commit_of (commit_key_of c.args.keys.now)) old.trace new.trace piece.place.0 piece.length bytes given.sealed piece.digest.0 (c.in_ok-bytes.ensures.read t) given.unforged given.found.0 c.in_ok-bytes.ensures.digest in
     same_plain (system_key c.args.keys.now) c.args.name.now c.in-Ok.plain.items plain given.sealed
-    (subst (λ (key : List ℕ). IsSealedRecord key c.args.name.now c.in-Ok.plain.items given.sealed) c.system.ensures
-    (subst (λ (b : List ℕ). IsSealedRecord c.system.result.now.0 c.args.name.now c.in-Ok.plain.items b) (c.as_slice.ensures.value ∙ is) c.in-Ok.ensures.found))
+    (subst (λ (b : List ℕ). IsSealedRecord (system_key c.args.keys.now) c.args.name.now c.in-Ok.plain.items b) (c.as_slice.ensures.value ∙ is) c.in-Ok.ensures.found)
     given.opened
 
 pub returns-in_err-bytes-clause-explained : goal.returns-in_err-bytes-clause-explained
@@ -42,8 +41,7 @@ returns-in-Err-Form-clause-explained g c t plain given =
     let piece = c.args.piece.now in
     let is = read_is (commit_of (commit_key_of c.args.keys.now)) old.trace new.trace piece.place.0 piece.length bytes given.sealed piece.digest.0 (c.in_ok-bytes.ensures.read t) given.unforged given.found.0 c.in_ok-bytes.ensures.digest in
     c.in-Err-Form.ensures.form (ap Err c.in-Err-Form.field-0-is) plain
-    (subst (λ (key : List ℕ). IsSealedRecord key c.args.name.now plain c.as_slice.result.now) (sym c.system.ensures)
-    (subst (λ (b : List ℕ). IsSealedRecord (system_key c.args.keys.now) c.args.name.now plain b) (sym (c.as_slice.ensures.value ∙ is)) given.opened))
+    (subst (λ (b : List ℕ). IsSealedRecord (system_key c.args.keys.now) c.args.name.now plain b) (sym (c.as_slice.ensures.value ∙ is)) given.opened)
 
 pub returns-in-Ok-clause-only : goal.returns-in-Ok-clause-only
 returns-in-Ok-clause-only g c t = only_one (g.P.Platform.outside c.args.platform.now) (g.P.Platform.outside c.fetch.new.platform) c.args.piece.now c.in_ok-bytes.bytes.items (c.in_ok-bytes.ensures.read t)

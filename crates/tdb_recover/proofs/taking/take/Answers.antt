@@ -18,6 +18,14 @@ note-requires g c =
     ∙ note_all-segments c.args.log.segments (named_records c.as_slice.result.now) in
     (lies.0, subst (λ (n : ℕ). lies.0 < n) (sym same) lies.1, lies.2)
 
+pub returns-clause-kept : goal.returns-clause-kept
+returns-clause-kept g c =
+    let noted : c.note.new.self ≡ note_in (note_all c.args.log.segments (named_records c.as_slice.result.now)) c.args.pending.commit.first =
+    c.note.ensures ∙ ap (λ (s : SegmentSpace). note_in s c.args.pending.commit.first) c.in-Ok.ensures.ok in (
+      refl,
+      ap (λ (s : SegmentSpace). s.segments) noted ∙ note_all-segments c.args.log.segments (named_records c.as_slice.result.now),
+    )
+
 pub returns-in_default-note-clause-unwritten : goal.returns-in_default-note-clause-unwritten
 returns-in_default-note-clause-unwritten g c =
     unwritten_nothing g.P.Platform.outside g.P.Platform.crash_states g.met.P.Platform.counts c.args.platform.now

@@ -1,4 +1,5 @@
-use Rattle.std.proofs.Common.{Err, inl, inr, ⊎_elim, ◌∙◌, ap, subst}
+use Rattle.std.proofs.Common.{List, ℕ, Err, inl, inr, ⊎_elim, ◌∙◌, ap, subst, sym}
+use Rattle.tdb_overlay.specs.Images.{IsReliableUnder}
 use Rattle.tdb_recover.specs.declared.error.OpenError.{OpenError}
 use Rattle.tdb_recover.specs.Opening.{StaysOrTakes}
 use Rattle.tdb_chunk.proofs.Attaching.{attached, same_error, with_secret}
@@ -13,7 +14,8 @@ returns-in-Ok-clause-attached g c store history from given =
 pub returns-in-Err-clause-anchor_err : goal.returns-in-Err-clause-anchor_err
 returns-in-Err-clause-anchor_err g c tells =
     let outside = g.P.Platform.outside in
-    subst (StaysOrTakes (outside c.args.platform) (outside c.recover.new.platform)) c.new-keys.ensures (c.in-Err.ensures.anchor_err tells)
+    let states = g.P.Platform.crash_states in
+    subst (StaysOrTakes outside states c.args.platform c.recover.new.platform) c.new-keys.ensures (c.in-Err.ensures.anchor_err tells)
 
 pub returns-in-Err-clause-unformatted_always : goal.returns-in-Err-clause-unformatted_always
 returns-in-Err-clause-unformatted_always g c tells none = (
@@ -28,8 +30,10 @@ returns-in-Err-clause-tampered g c damage is store history from given =
     c.in-Err.ensures.tampered damage (ap Err is) store history from (with_secret _ _ _ _ store history from c.new-keys.ensures given)
 
 pub returns-in-Err-clause-reliable : goal.returns-in-Err-clause-reliable
-returns-in-Err-clause-reliable g c damage is store history from given =
+returns-in-Err-clause-reliable g c damage is store history from given reliable =
     c.in-Err.ensures.reliable damage (ap Err is) store history from (with_secret _ _ _ _ store history from c.new-keys.ensures given)
+    (subst (λ (k : List ℕ). IsReliableUnder g.P.Platform.outside g.P.Platform.crash_states k c.args.platform) (sym c.new-keys.ensures)
+    reliable)
 
 pub returns-in-Err-clause-form : goal.returns-in-Err-clause-form
 returns-in-Err-clause-form g c place is store history from given =

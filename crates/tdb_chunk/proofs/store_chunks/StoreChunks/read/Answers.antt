@@ -1,5 +1,5 @@
-use Rattle.std.proofs.Common.{refl, ◌∙◌}
-use Rattle.tdb_chunk.proofs.StoreReads.{as_seen, has_read, read_no_chunk, read_no_partition, read_stopped}
+use Rattle.std.proofs.Common.{refl, sym, ◌∙◌}
+use Rattle.tdb_chunk.proofs.StoreReads.{as_seen, has_read, read_no_chunk, read_no_partition, read_stopped, with_secret}
 use Rattle.tdb_chunk.proofs.store_chunks.StoreChunks.read.Goals as goal
 
 pub returns-then-self : goal.returns-then-self
@@ -36,8 +36,9 @@ returns g c =
     let outside = g.P.Platform.outside in
     let crash_states = g.P.Platform.crash_states in
     let e = c.read_chunk.ensures in
+    let was = c.self.inside in
     record {
-      read = as_seen outside crash_states c.args.part c.args.rank _ _ _ _ c.self.view_is refl
+      read = as_seen outside crash_states c.args.part c.args.rank _ _ _ _ c.self.view_is (with_secret c.read_chunk.new.platform was.chain.log was.stopped was.chain.keys c.read_chunk.new.keys (sym e.same))
           (has_read outside crash_states g.met.P.Platform.counts g.met.P.Platform.numbered _ c.args.part c.args.rank c.in-Some.leader
           c.in-Here.piece c.self.invariant c.if-self.false c.in-Some.ensures c.in-Here.ensures c.read_chunk.new.platform c.read_chunk.result (record {
             reads = e.reads;
