@@ -9,11 +9,11 @@ ghost use Rattle.tdb_notes.specs.Script.{IsChunkReply, changes_of, refusal_reply
 ghost use Rattle.tdb_notes.specs.SessionState.{notes_of};
 
 use crate::session::NOTES_PART;
-use crate::transaction::{NewNote, new_note};
+use crate::transaction::NewNote;
 use std::alloc::{AllocError, Global};
 use tdb_base::{Rank, TxId};
 use tdb_model::{Change, CommitError};
-use tdb_script::{Reply, read_stored_note, stored_note};
+use tdb_script::{Note, Reply, read_stored_note, stored_note};
 use tdb_serve::Stop;
 
 /// The reply with a note's text.
@@ -21,7 +21,7 @@ pub(crate) fn got(alloc: Global, number: TxId, id: Rank, text: &[u8]) -> Result<
     requires { IsNoteText text.now }
     ensures { IfOk result (λ reply. reply ≡ Got number id text.now) }
 {
-    let note = new_note(alloc, text)?;
+    let note = Note::of(alloc, text)?;
     Ok(Reply::Got(number, id, note))
 }
 

@@ -3,11 +3,11 @@ ghost use Rattle.std.specs.Prelude.{◌≤◌};
 ghost use Rattle.tdb_model.specs.Limits.{rank_limit};
 ghost use Rattle.tdb_notes.specs.Drawn.{made_in};
 
-use crate::transaction::{Transaction, new_note};
+use crate::transaction::Transaction;
 use std::alloc::{AllocError, Global};
 use tdb_base::{PartId, Rank, TxId};
 use tdb_model::RANK_LIMIT;
-use tdb_script::Reply;
+use tdb_script::{Note, Reply};
 
 /// The partition whose chunks are the notes of scripts.
 pub(crate) const NOTES_PART: PartId = PartId(1);
@@ -84,7 +84,7 @@ impl Session {
             return Ok(Reply::RefusedIds(NOTES_PART));
         }
         let id = Rank(self.next_id);
-        let note = new_note(alloc, text)?;
+        let note = Note::of(alloc, text)?;
         if let Some(open) = &mut self.transaction {
             open.add(id, note)?;
         }

@@ -1,11 +1,10 @@
 // The transaction of a script.
-ghost use Rattle.std.specs.Prelude.{◌≡◌, ◌<◌, ◌+◌, ◌++◌, ◌∷◌, [], IfOk, OnErr, OnOk, length};
+ghost use Rattle.std.specs.Prelude.{◌≡◌, ◌<◌, ◌+◌, ◌++◌, ◌∷◌, [], OnErr, OnOk, length};
 ghost use Rattle.std.specs.List.{All};
 ghost use Rattle.tdb_model.specs.Limits.{rank_limit};
-ghost use Rattle.tdb_script.specs.NoteText.{IsNoteText};
 
-use std::alloc::{AllocError, Global};
-use tdb_base::{Bytes, Rank, TxId};
+use std::alloc::AllocError;
+use tdb_base::{Rank, TxId};
 use tdb_script::Note;
 
 /// A note that a transaction made, and its id.
@@ -21,17 +20,6 @@ pub(crate) struct Transaction {
     pub number: TxId,
     pub notes: Vec<NewNote>,
     ghost ids: { All (λ new. new.id.0 < rank_limit) notes.items },
-}
-
-/// The note of a text.
-pub(crate) fn new_note(alloc: Global, text: &[u8]) -> Result<Note, AllocError>
-    requires { IsNoteText text.now }
-    ensures { IfOk result (λ note. note ≡ text.now) }
-{
-    let Some(note) = Note::new(Bytes::from(Vec::from_slice(alloc, text)?)) else {
-        unreachable!()
-    };
-    Ok(note)
 }
 
 impl Transaction {

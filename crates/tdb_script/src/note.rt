@@ -58,6 +58,18 @@ impl Note {
         Some(Note { text })
     }
 
+    /// The note of a text that is known to be a note's.
+    #[tactic(auto, using(crate::proofs::NoteLaws::note_text_is_utf8))]
+    pub fn of(alloc: Global, text: &[u8]) -> Result<Note, AllocError>
+        requires { IsNoteText text.now }
+        ensures { IfOk result (λ note. note ≡ text.now) }
+    {
+        let Ok(text) = String::from_utf8(Vec::from_slice(alloc, text)?) else {
+            unreachable!()
+        };
+        Ok(Note { text })
+    }
+
     /// The text.
     pub fn text(&self) -> &[u8]
         ensures text { result.now ≡ self.now }

@@ -1,14 +1,11 @@
 //! The replies to lines.
-ghost use Rattle.std.specs.Prelude.{◌≡◌, IfOk, Some};
+ghost use Rattle.std.specs.Prelude.{◌≡◌, OnOk, Some, string_bytes};
 ghost use Rattle.tdb_script.specs.ReplySpelling.{reply_text, reply_spelling};
 
 use crate::note::Note;
-use std::alloc::{AllocError, Global};
+use std::alloc::AllocError;
 use std::fmt;
-use tdb_base::{Bytes, NoRoom, PartId, Rank, TxId};
-
-// The greatest reply without a note, `refused no object P ID` with its line feed, has 40 bytes.
-const REPLY_CAPACITY: usize = 40;
+use tdb_base::{NoRoom, PartId, Rank, TxId};
 
 /// The reply to a line.
 #[derive(Debug, Drop)]
@@ -83,11 +80,11 @@ impl fmt::Display for Reply {
     }
 }
 
-/// The text of a reply, with its line feed.
-pub fn write_reply(alloc: Global, reply: &Reply) -> Result<Bytes, AllocError>
-    ensures { IfOk result (λ text. text ≡ reply_spelling reply.now) }
+/// Writes the text of a reply, with its line feed, in place of what a string had. After an error it has some of it.
+pub fn write_reply(reply: &Reply, text: &mut String) -> Result<(), AllocError>
+    ensures { OnOk result (string_bytes text.new ≡ reply_spelling reply.now) }
 {
-    let mut text = String::with_capacity(alloc, REPLY_CAPACITY)?;
+    text.clear();
     writeln!(text, "{reply}")?;
-    Ok(Bytes::from(text.into_bytes()))
+    Ok(())
 }

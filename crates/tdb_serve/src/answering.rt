@@ -33,8 +33,8 @@ fn answer_taken<A: Answers>(
     }
 }
 
-// Puts a reply, whole and at once.
-fn put_reply<K: Sink>(alloc: Global, sink: &mut K, reply: &Reply) -> Result<(), NotPut>
+// Puts a reply, whole and at once. It is written in the string before.
+fn put_reply<K: Sink>(sink: &mut K, reply: &Reply, text: &mut String) -> Result<(), NotPut>
     ensures ok { IsTrue (K.content sink.old).tells → OnOk result
         ((K.content sink.new).held ≡ (K.content sink.old).held ++ reply_spelling reply.now) }
     ensures quiet { OnOk result ((K.content sink.new).faults ≡ (K.content sink.old).faults) }
@@ -42,22 +42,23 @@ fn put_reply<K: Sink>(alloc: Global, sink: &mut K, reply: &Reply) -> Result<(), 
     ensures tells { (K.content sink.new).tells ≡ (K.content sink.old).tells }
     ensures no_fewer { (K.content sink.old).faults ≤ (K.content sink.new).faults }
 {
-    let Ok(text) = write_reply(alloc, reply) else {
+    let Ok(()) = write_reply(reply, text) else {
         return Err(NotPut::NoMemory);
     };
-    match sink.put(text.as_slice()) {
+    match sink.put(text.as_bytes()) {
         Ok(()) => Ok(()),
         Err(Failed) => Err(NotPut::SinkFailed),
     }
 }
 
-/// Has the next line answered and puts the reply. Or it says what ends the script.
+/// Has the next line answered and puts the reply, which is written in the string. Or it says what ends the script.
 pub(crate) fn answer_one<S: Source, K: Sink, A: Answers>(
     alloc: Global,
     source: &mut S,
     sink: &mut K,
     answers: &mut A,
     lines: &mut ScriptLines,
+    text: &mut String,
 ) -> Result<Reply, Halt>
     requires { A.ready answers.old }
     ensures replied { IfOk result (λ reply. HasReplied A.answered (S.content source.old) (S.content source.new) (K.content sink.old)
@@ -77,7 +78,7 @@ pub(crate) fn answer_one<S: Source, K: Sink, A: Answers>(
         Ok(reply) => reply,
         Err(stop) => return Err(Halt::Stopped(stop)),
     };
-    match put_reply(alloc, sink, &reply) {
+    match put_reply(sink, &reply, text) {
         Ok(()) => Ok(reply),
         Err(why) => Err(Halt::Cut(why)),
     }

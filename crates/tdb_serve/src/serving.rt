@@ -35,8 +35,9 @@ fn serve_lines<S: Source, K: Sink, A: Answers>(
     ensures faults { TellsStreamFaults (S.content source.old) (S.content source.new) (K.content sink.old) (K.content sink.new) result }
     ensures keeps { Keeps (S.content source.old) (S.content source.new) (K.content sink.old) (K.content sink.new) }
 {
+    let mut text = String::new(alloc);
     'answering: loop {
-        match answer_one(alloc, source, sink, answers, lines) {
+        match answer_one(alloc, source, sink, answers, lines, &mut text) {
             Ok(reply) => {
                 if is_last(&reply) {
                     return ScriptEnd::Bye;

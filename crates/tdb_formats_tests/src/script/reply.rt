@@ -17,9 +17,11 @@ fn replies_are_written_with_their_line_feeds(rt: HostRuntime) -> Result<(), Fail
         (Reply::Tampered(PartId(1), Rank(6)), b"tampered 1 6\n"),
         (Reply::Tampered(PartId(0), Rank(1)), b"tampered 0 1\n"),
     ];
+    // each is put in place of the one before it
+    let mut text = String::new(rt.alloc());
     for (reply, expected) in table.iter() {
-        let text = write_reply(rt.alloc(), reply)?;
-        assert!(rt; text.as_slice() == *expected, "{reply}");
+        write_reply(reply, &mut text)?;
+        assert!(rt; text.as_bytes() == *expected, "{reply}");
     }
     Ok(())
 }
@@ -47,9 +49,11 @@ fn refusals_are_written_with_their_causes(rt: HostRuntime) -> Result<(), Fail> {
         (Reply::RefusedRing, b"refused ring\n"),
         (Reply::RefusedCounter, b"refused counter\n"),
     ];
+    // each is put in place of the one before it
+    let mut text = String::new(rt.alloc());
     for (reply, expected) in table.iter() {
-        let text = write_reply(rt.alloc(), reply)?;
-        assert!(rt; text.as_slice() == *expected, "{reply}");
+        write_reply(reply, &mut text)?;
+        assert!(rt; text.as_bytes() == *expected, "{reply}");
     }
     Ok(())
 }
@@ -58,8 +62,9 @@ fn refusals_are_written_with_their_causes(rt: HostRuntime) -> Result<(), Fail> {
 fn a_note_is_written_as_it_stands(rt: HostRuntime) -> Result<(), Fail> {
     let bytes = Bytes::from(b" {hello}  ~ ".to_vec(rt.alloc())?);
     let note = Note::new(bytes).ok_or("no note")?;
-    let text = write_reply(rt.alloc(), &Reply::Got(TxId(1), Rank(262_143), note))?;
-    assert!(rt; text.as_slice() == b"got 1 262143 note  {hello}  ~ \n".as_slice());
+    let mut text = String::new(rt.alloc());
+    write_reply(&Reply::Got(TxId(1), Rank(262_143), note), &mut text)?;
+    assert!(rt; text.as_bytes() == b"got 1 262143 note  {hello}  ~ \n".as_slice());
     Ok(())
 }
 
@@ -70,7 +75,8 @@ fn the_longest_note_is_written_whole(rt: HostRuntime) -> Result<(), Fail> {
         bytes.push(b'~')?;
     }
     let note = Note::new(Bytes::from(bytes)).ok_or("no note")?;
-    let text = write_reply(rt.alloc(), &Reply::Got(TxId(9), Rank(0), note))?;
+    let mut text = String::new(rt.alloc());
+    write_reply(&Reply::Got(TxId(9), Rank(0), note), &mut text)?;
     assert_eq!(rt; text.len(), 2014);
     Ok(())
 }
