@@ -92,6 +92,7 @@ module _ {D : Type 0} (outside : D → Outside) (crash_states : D → CrashState
     unformatted_always = λ is. absurd (none (inr is));
     formatted = λ suite segments is. absurd (cc is);
     scripts = λ is. absurd (cc is);
+    script_ends = λ is. absurd (cc is);
     not_opened = λ is. ⊎_elim (λ one. absurd (cc one)) (λ other. absurd (cc other)) is;
     damaged = λ finding run is. absurd (cc is);
   }
@@ -118,6 +119,7 @@ module _ {D : Type 0} (outside : D → Outside) (crash_states : D → CrashState
         unformatted_always = λ run. absurd (not_run run);
         formatted = λ other number is. absurd (subst IsOfStop is (of_stop why));
         scripts = λ is. absurd (subst IsOfStop is (of_stop why));
+        script_ends = λ is. absurd (subst IsOfStop is (of_stop why));
         not_opened = λ is. ⊎_elim (λ one. let r = already (stop_already why one) in (r.1, r.2))
             (λ other. absurd (never (stop_unformatted why other))) is;
         damaged = λ finding run. absurd (not_run run);
@@ -135,6 +137,7 @@ module _ {D : Type 0} (outside : D → Outside) (crash_states : D → CrashState
         formatted = λ other number is. let same : Done (Formatted suite segments) ≡ Done (Formatted other number) = is in
             subst (λ (s : Suite). IsFormat words s number) (cc same) (subst (λ (n : ℕ). IsFormat words suite n) (cc same) format);
         scripts = λ is. absurd (cc is);
+        script_ends = λ is. absurd (cc is);
         not_opened = λ is. ⊎_elim (λ one. absurd (cc one)) (λ other. absurd (cc other)) is;
         damaged = λ finding run is. absurd (cc is);
       }
@@ -150,6 +153,7 @@ module _ {D : Type 0} (outside : D → Outside) (crash_states : D → CrashState
         unformatted_always = λ run. absurd (not_run run);
         formatted = λ other number is. absurd (subst IsOfScript is is_of);
         scripts = λ is other number format. start_not_format words suite other segments number start format;
+        script_ends = λ is other number format. start_not_format words suite other segments number start format;
         not_opened = λ is. ⊎_elim (λ one. absurd (subst IsOfScript one is_of)) (λ other. absurd (subst IsOfScript other is_of)) is;
         damaged = λ finding run. absurd (not_run run);
       }
@@ -171,6 +175,7 @@ module _ {D : Type 0} (outside : D → Outside) (crash_states : D → CrashState
         unformatted_always = λ run tells count. absurd (some tells count);
         formatted = λ other number is. absurd (subst IsOfScript is is_of);
         scripts = λ is other number format. format_not_run words other number format run;
+        script_ends = λ is other number format. format_not_run words other number format run;
         not_opened = λ is. ⊎_elim (λ one. absurd (subst IsOfScript one is_of)) (λ other. absurd (subst IsOfScript other is_of)) is;
         damaged = λ finding run is. absurd (subst IsOfScript is is_of);
       }
@@ -191,6 +196,7 @@ module _ {D : Type 0} (outside : D → Outside) (crash_states : D → CrashState
             (always tells count);
         formatted = λ other number is. absurd (subst IsOfStop is (of_stop why));
         scripts = λ is. absurd (subst IsOfStop is (of_stop why));
+        script_ends = λ is. absurd (subst IsOfStop is (of_stop why));
         not_opened = λ is. ⊎_elim (λ one. absurd (never (stop_already why one)))
             (λ other. let r = unformatted (stop_unformatted why other) in (r.1, r.2)) is;
         damaged = λ finding run is. unwritten (no_fault why (Damaged finding) (λ no. absurd (cc no)) is);

@@ -5,9 +5,11 @@ use Rattle.std.specs.FinMap.{get-empty}
 use Rattle.std.specs.Ordering.{nat_cmp}
 use Rattle.tdb_base.specs.Rose.{Rose}
 use Rattle.tdb_base.specs.declared.piece.Damage.{Damage}
+use Rattle.tdb_base.specs.declared.piece.Digest.{Digest}
 use Rattle.tdb_base.specs.declared.piece.Place.{Place}
 use Rattle.tdb_base.specs.declared.suite.Suite.{Suite}
-use Rattle.tdb_base.specs.Trace.{IsNumbered, WrittenPiece}
+use Rattle.tdb_base.specs.Trace.{Extends, IsNumbered, ReadPiece, WrittenPiece}
+use Rattle.tdb_base.proofs.Tracing.{extends_along, extends_itself}
 use Rattle.tdb_mark.specs.CommitChain.{commit_chain}
 use Rattle.tdb_mark.specs.CommitText.{commit_key_of, commit_of}
 use Rattle.tdb_mark.specs.declared.commit.Commit.{Commit}
@@ -19,36 +21,40 @@ use Rattle.tdb_model.specs.declared.error.CommitError.TheVariants as refusals
 use Rattle.tdb_platform.specs.CrashStates.{CrashStates}
 use Rattle.tdb_platform.specs.Outside.{Anchor, Outside}
 use Rattle.tdb_overlay.specs.Found.{Store, in_trace}
+use Rattle.tdb_overlay.specs.Growth.{IsSettled}
 use Rattle.tdb_overlay.specs.Log.{IsLog, IsLogOf}
 use Rattle.tdb_overlay.specs.Reading.{OnlyReads}
 use Rattle.tdb_overlay.specs.Required.{IsOpeningPiece}
 use Rattle.tdb_overlay.specs.Sound.{IsSound}
 use Rattle.tdb_overlay.specs.StoreState.{StoreState, first_state, formatted_state}
-use Rattle.tdb_overlay.specs.WellFormedLog.{IsAccepted, IsWellFormedLog, IsWellFormedTrace}
+use Rattle.tdb_overlay.specs.WellFormedLog.{IsAccepted, IsWellFormedTrace}
 use Rattle.tdb_overlay.specs.declared.recovered.Recovered.{Recovered}
 use Rattle.tdb_overlay.proofs.LogLaws.{allows}
 use Rattle.tdb_overlay.proofs.RanLaws.{sound_earlier}
 use Rattle.tdb_recover.specs.Damaged.{IsDamageOf, damaged_piece}
-use Rattle.tdb_recover.specs.Opening.{HasLookedAhead, HasNotRecovered, HasTakenShown}
+use Rattle.tdb_recover.specs.Ahead.{AsksAhead, IsAsShown}
+use Rattle.tdb_recover.specs.Opening.{HasLookedAhead, HasNotRecovered, HasShownWhole, HasTakenShown, NamesTaken, shown_anchor}
 use Rattle.tdb_recover.specs.Pending.{IsTaken, Takes}
 use Rattle.tdb_recover.specs.Premises.{Premises}
 use Rattle.tdb_recover.specs.Settled.{RanSettled}
+use Rattle.tdb_recover.specs.declared.ahead.Pending.{Pending}
 use Rattle.tdb_recover.specs.declared.error.OpenError.{OpenError}
 use Rattle.tdb_recover.specs.declared.error.OpenError.TheVariants as opens
 use Rattle.tdb_chunk.specs.Attached.{HasAttached}
 use Rattle.tdb_chunk.specs.Formatting.{WritesFirstText, store_under}
-use Rattle.tdb_chunk.specs.Standing.{StandsAt}
+use Rattle.tdb_chunk.specs.Standing.{IsReady, StandsAt}
 use Rattle.tdb_chunk.specs.StoreView.{StoreView, store_in}
 use Rattle.tdb_chunk.specs.declared.store_format.FormatError.{FormatError}
 use Rattle.tdb_chunk.specs.declared.store_format.FormatError.TheVariants as formats
 use Rattle.tdb_run.specs.Calls.{Calls, StopFaults}
 use Rattle.tdb_run.specs.Ends.{after_format, stop_of_commit, stop_of_format, stop_of_open}
-use Rattle.tdb_run.specs.Opened.{HasBegun, HasNotBegun, HasNotOpened, HasOpened, IsToldDamage, IsWhyNot, LookedAhead, OverLogs, WhereItStands}
+use Rattle.tdb_run.specs.Opened.{HasBegun, HasNotBegun, HasNotOpened, HasOpened, IsToldDamage, IsWhyNot, LookedAhead, OverLogs, StopsBehind, TakesShown, WhereItStands}
 use Rattle.tdb_run.specs.Opens.{HasNone, MayOpen, Opens as MakesPartitions}
 use Rattle.tdb_run.specs.declared.opening.NotOpened.{NotOpened}
 use Rattle.tdb_run.specs.declared.opening.NotOpened.TheVariants.{AlreadyFormatted, Damaged, Memory, PlatformFault, Refused, Unformatted}
 use Rattle.tdb_run.specs.declared.status.Finding.TheVariants.{Form, Tampered}
-use Rattle.tdb_run.proofs.OpeningLaws.{premises_before, settled_maybe, sound_at_end}
+use Rattle.tdb_run.specs.declared.status.Refusal.{Refusal}
+use Rattle.tdb_run.proofs.OpeningLaws.{only_settled, premises_before, settled_maybe, sound_at_end}
 
 none_or_some : (n : ℕ) → (n ≡ 0) ⊎ (n ≢ 0)
 none_or_some zero = inl refl
@@ -97,6 +103,53 @@ faults_later old mid new (Damaged finding) first then = then ∙ first
 faults_later old mid new (Refused refusal) first then = then ∙ first
 faults_later old mid new PlatformFault first then = subst (λ (n : ℕ). Rose n new.faults) first then
 faults_later old mid new Memory first then = then ∙ first
+
+-- A store that can't be attached, or can't be formatted, isn't open for something else than a commit that is refused.
+fault_or : (why : NotOpened) → (why ≡ PlatformFault) ⊎ (why ≢ PlatformFault)
+fault_or AlreadyFormatted = inr (λ is. cc is)
+fault_or Unformatted = inr (λ is. cc is)
+fault_or (Damaged finding) = inr (λ is. cc is)
+fault_or (Refused refusal) = inr (λ is. cc is)
+fault_or PlatformFault = inl refl
+fault_or Memory = inr (λ is. cc is)
+
+-- after a store was made only a fault is one
+after_format_fault : (why : NotOpened) → why ≡ PlatformFault → after_format why ≡ PlatformFault
+after_format_fault why is = ap after_format is
+
+-- a fault that was told came of one
+open_fault : (e : OpenError) → stop_of_open e ≡ PlatformFault → e ≡ opens.Fault
+open_fault opens.Unformatted is = cc is
+open_fault (opens.Tampered damage) is = cc is
+open_fault (opens.Form place) is = cc is
+open_fault opens.Fault is = refl
+open_fault opens.Memory is = cc is
+
+open_fault_or : (e : OpenError) → (e ≡ opens.Fault) ⊎ (e ≢ opens.Fault)
+open_fault_or opens.Unformatted = inr (λ is. cc is)
+open_fault_or (opens.Tampered damage) = inr (λ is. cc is)
+open_fault_or (opens.Form place) = inr (λ is. cc is)
+open_fault_or opens.Fault = inl refl
+open_fault_or opens.Memory = inr (λ is. cc is)
+
+format_fault_or : (e : FormatError) → (e ≡ formats.Fault) ⊎ (e ≢ formats.Fault)
+format_fault_or formats.Segments = inr (λ is. cc is)
+format_fault_or (formats.AlreadyFormatted count) = inr (λ is. cc is)
+format_fault_or formats.Fault = inl refl
+format_fault_or formats.Memory = inr (λ is. cc is)
+
+open_unrefused : (e : OpenError) (refusal : Refusal) → stop_of_open e ≢ Refused refusal
+open_unrefused opens.Unformatted refusal is = cc is
+open_unrefused (opens.Tampered damage) refusal is = cc is
+open_unrefused (opens.Form place) refusal is = cc is
+open_unrefused opens.Fault refusal is = cc is
+open_unrefused opens.Memory refusal is = cc is
+
+format_unrefused : (e : FormatError) (refusal : Refusal) → stop_of_format e ≢ Refused refusal
+format_unrefused formats.Segments refusal is = cc is
+format_unrefused (formats.AlreadyFormatted count) refusal is = cc is
+format_unrefused formats.Fault refusal is = cc is
+format_unrefused formats.Memory refusal is = cc is
 
 -- A commit that isn't refused for a fault of the platform is refused for something else,
 pub no_fault : (slot : Place) (e : CommitError) → stop_of_commit e slot ≢ PlatformFault → e ≢ refusals.Fault
@@ -163,6 +216,70 @@ took_by_count old mid store history taken from to log takes looked before now = 
       ))
   by (inr goes) (inr none) = absurd (omega (arith, goes.1.count, before, now, ap (λ (s : StoreState). s.count) none.1))
 
+same_anchor : {m n : ℕ} {one other : List ℕ} → m ≡ n → one ≡ other → ◌≡◌ {A = Anchor} (m, one) (n, other)
+same_anchor count mark i = (count i, mark i)
+
+-- A commit that reading ahead showed counts one more than the log.
+shown_counts : (secret : List ℕ) (log : Recovered) (ahead : List ReadPiece) (p : Pending) → IsAsShown secret log ahead p
+    → p.commit.count ≡ log.head.count + 1
+shown_counts secret log [] p is = absurd is
+shown_counts secret log (r ∷ reads) p is = is.0.1.count
+
+-- Where reading ahead of a log came to a commit, that was shown whole, and what is open names it.
+shown_whole : (old mid : Outside) (secret : List ℕ) (log : Recovered) (looked : HasLookedAhead old mid secret log) → looked.took ≡ true
+    → HasTakenShown secret looked.log looked.ahead log
+    → (s : HasShownWhole old mid secret) × (shown_anchor s ≡ (log.head.count, log.head.mark.0))
+shown_whole old mid secret log looked took goes = (
+  record {
+    log = looked.log;
+    opening = looked.opening;
+    ahead = looked.ahead;
+    pending = goes.pending;
+    in_order = looked.in_order;
+    head = looked.head;
+    asks = subst (λ (b : Bool). AsksAhead secret looked.log looked.ahead b) took looked.asks;
+    shown = goes.shown;
+    knows = looked.knows;
+  },
+  same_anchor (shown_counts secret looked.log looked.ahead goes.pending goes.shown ∙ sym goes.count)
+      (ap (λ (m : Digest). m.0) (sym goes.mark)),
+)
+
+-- A commit that was taken where a log was opened is the one that reading ahead of it had shown.
+attached_shown : (old mid new : Outside) (store : Store) (history taken : History) (from to : StoreState) (log : Recovered)
+    → Extends mid.trace new.trace → (takes : Takes old.trace.written store old.anchor history from taken to)
+    → NamesTaken takes mid.anchor → (looked : HasLookedAhead old mid store.secret log) → looked.log.head.count ≡ from.count
+    → log.head.count ≡ to.count → mid.anchor ≡ (log.head.count, log.head.mark.0) → TakesShown old new takes
+attached_shown old mid new store history taken from to log grows (inr none) named looked before now at_head = inl none.0
+attached_shown old mid new store history taken from to log grows (inl is) named looked before now at_head = by looked.came where
+  by : ((looked.took ≡ false) × (log ≡ looked.log)) ⊎ ((looked.took ≡ true) × HasTakenShown store.secret looked.log looked.ahead log)
+      → TakesShown old new {taken = taken} {mid = to} (inl is)
+  by (inl stays) =
+      absurd (omega (
+        arith,
+        ap (λ (r : Recovered). r.head.count) stays.1,
+        before,
+        now,
+        taken_counts old.trace.written store old.anchor history taken from to is,
+      ))
+  by (inr goes) = let shown = shown_whole old mid store.secret log looked goes.0 goes.1 in
+      inr (mid, grows, (shown.0, shown.1 ∙ sym at_head ∙ named))
+
+-- The same where the log wasn't opened.
+unattached_shown : (old new : Outside) (store : Store) (history taken : History) (from to : StoreState)
+    → (takes : Takes old.trace.written store old.anchor history from taken to)
+    → (taken ≡ []) ⊎ ((s : HasShownWhole old new store.secret) × NamesTaken takes (shown_anchor s)) → TakesShown old new takes
+unattached_shown old new store history taken from to takes (inl none) = inl none
+unattached_shown old new store history taken from to takes (inr some) = inr (new, extends_itself new.trace, some)
+
+-- What was shown by then was as the trace becomes longer.
+pub shown_longer : (old mid new : Outside) (store : Store) (anchor : Anchor) (history taken : History) (from to : StoreState)
+    → Extends mid.trace new.trace → (takes : Takes old.trace.written store anchor history from taken to) → TakesShown old mid takes
+    → TakesShown old new takes
+shown_longer old mid new store anchor history taken from to grows takes (inl none) = inl none
+shown_longer old mid new store anchor history taken from to grows takes (inr some) =
+    inr (some.0, extends_along some.0.trace mid.trace new.trace some.1 grows, some.2)
+
 module _ {D : Type 0} (outside : D → Outside) (crash_states : D → CrashStates)
     (counts : (p : D) (t u : ℕ) (i : List ℕ) (a : Anchor) → t ≤ u → u ≤ (outside p).clock → crash_states p u i a → crash_states p t i a)
     (numbered : (p : D) → IsTrue (outside p).tells → IsNumbered (outside p).trace) where
@@ -183,7 +300,9 @@ module _ {D : Type 0} (outside : D → Outside) (crash_states : D → CrashState
       (first : Calls outside crash_states secret platform s.platform)
       (attached : (store : Store) (history : History) (from : StoreState)
       → Premises (outside platform) (outside s.platform) secret store history from
-      → HasAttached outside crash_states platform store history from s) where
+      → HasAttached outside crash_states platform store history from s)
+      (ahead : IsTrue (outside platform).tells → HasLookedAhead (outside platform) (outside s.platform) secret s.log)
+      (ready : IsReady outside crash_states s) (running : s.stopped ≡ false) where
     module _ (end : D) (calls : Calls outside crash_states s.secret s.platform end) (store : Store) (history : History) (from : StoreState)
         (given : Premises (outside platform) (outside end) secret store history from) where
       at_end : IsSound s.secret (outside end)
@@ -197,30 +316,48 @@ module _ {D : Type 0} (outside : D → Outside) (crash_states : D → CrashState
       was_attached : HasAttached outside crash_states platform store history from s
       was_attached = attached store history from when_attached
 
+      told_then : IsTrue (outside s.platform).tells
+      told_then = subst (λ (b : Bool). IsTrue b) (sym first.tells) given.tells
+
+      grows_then : Extends (outside s.platform).trace (outside end).trace
+      grows_then = calls.grows told_then
+
+      looked_then : HasLookedAhead (outside platform) (outside s.platform) store.secret s.log
+      looked_then =
+          subst (λ (k : List ℕ). HasLookedAhead (outside platform) (outside s.platform) k s.log) (sym given.keys) (ahead given.tells)
+
+      given_then : Premises (outside platform) (outside s.platform) store.secret store history from
+      given_then =
+          subst (λ (k : List ℕ). Premises (outside platform) (outside s.platform) k store history from) (sym given.keys) when_attached
+
+      count_then : looked_then.log.head.count ≡ from.count
+      count_then = (looked_then.knows store history from given_then).count
+
       -- It was read ahead of the log that was opened.
-      looked_ahead : (IsTrue (outside platform).tells → HasLookedAhead (outside platform) (outside s.platform) secret s.log)
-          → LookedAhead (outside platform) (outside end) store was_attached.taken
-      looked_ahead ahead =
+      looked_ahead : LookedAhead (outside platform) (outside end) store was_attached.taken
+      looked_ahead =
           let at = was_attached in
-          let looked : HasLookedAhead (outside platform) (outside s.platform) store.secret s.log =
-          subst (λ (k : List ℕ). HasLookedAhead (outside platform) (outside s.platform) k s.log) (sym given.keys) (ahead given.tells) in
-          let before : Premises (outside platform) (outside s.platform) store.secret store history from =
-          subst (λ (k : List ℕ). Premises (outside platform) (outside s.platform) k store history from) (sym given.keys) when_attached in
           record {
             opened = outside s.platform;
             log = s.log;
-            looked = looked;
-            took = took_by_count (outside platform) (outside s.platform) store history at.taken from at.to s.log at.takes looked
-                (looked.knows store history from before).count at.stands.knows.count;
-            grows = calls.grows (subst (λ (b : Bool). IsTrue b) (sym first.tells) given.tells);
-            unforged = before.unforged;
+            looked = looked_then;
+            took = took_by_count (outside platform) (outside s.platform) store history at.taken from at.to s.log at.takes looked_then
+                count_then at.stands.knows.count;
+            grows = grows_then;
+            unforged = given_then.unforged;
           }
 
-    pub opened_attached : (IsTrue (outside platform).tells → HasLookedAhead (outside platform) (outside s.platform) secret s.log)
-        → (end : StoreView D) → Calls outside crash_states s.secret s.platform end.platform
+      -- What it took was shown then.
+      took_shown : TakesShown (outside platform) (outside end) was_attached.takes
+      took_shown =
+          let at = was_attached in
+          attached_shown (outside platform) (outside s.platform) (outside end) store history at.taken from at.to s.log grows_then at.takes
+          at.named looked_then count_then at.stands.knows.count (ready.at_head running told_then)
+
+    pub opened_attached : (end : StoreView D) → Calls outside crash_states s.secret s.platform end.platform
         → WhereItStands outside s end.platform (λ history from. Opens (store_in s) s.platform history from end)
         → OverLogs (outside platform) (outside end.platform) secret (λ store history from. Begins store platform history from end)
-    opened_attached ahead end calls opened store history from given =
+    opened_attached end calls opened store history from given =
         let at = was_attached end.platform calls store history from given in
         let there = opened (at_end end.platform calls store history from given) (history ++ at.taken) at.to at.stands in
         let o : Opens store s.platform (history ++ at.taken) at.to end =
@@ -232,10 +369,11 @@ module _ {D : Type 0} (outside : D → Outside) (crash_states : D → CrashState
             taken = at.taken;
             mid = at.to;
             takes = at.takes;
+            shown = took_shown end.platform calls store history from given;
             made = o.opening;
             opens = o.opens;
             parts = refl;
-            ahead = inr (looked_ahead end.platform calls store history from given ahead);
+            ahead = inr (looked_ahead end.platform calls store history from given);
           };
           same = o.same;
           ran = settled_maybe outside crash_states counts numbered store platform s.platform end.platform at.taken o.opening [] at.ran
@@ -248,34 +386,66 @@ module _ {D : Type 0} (outside : D → Outside) (crash_states : D → CrashState
     pub not_opened_attached : (end : D) (why : NotOpened) → Calls outside crash_states s.secret s.platform end
         → WhereItStands outside s end (λ history from. NotOpens (store_in s) s.platform end from)
         → WhereItStands outside s end (λ history from. (earlier : Outside) → IsWhyNot (store_in s) earlier (outside end) from why)
+        → (why ≢ PlatformFault → OnlyReads outside crash_states s.platform end × IsSettled outside crash_states end)
         → OverLogs (outside platform) (outside end) secret (λ store history from. NotBegins store platform end history from why)
-    not_opened_attached end why calls opened is_why store history from given =
-        let at = was_attached end calls store history from given in
-        let sound = at_end end calls store history from given in
-        let o : NotOpens store s.platform end at.to =
-        subst (λ (t : Store). NotOpens t s.platform end at.to) at.same (opened sound (history ++ at.taken) at.to at.stands) in
-        record {
+    not_opened_attached end why calls opened is_why only store history from given = ⊎_elim failed quiet (fault_or why)
+      where
+        at : HasAttached outside crash_states platform store history from s
+        at = was_attached end calls store history from given
+
+        sound : IsSound s.secret (outside end)
+        sound = at_end end calls store history from given
+
+        o : NotOpens store s.platform end at.to
+        o = subst (λ (t : Store). NotOpens t s.platform end at.to) at.same (opened sound (history ++ at.taken) at.to at.stands)
+
+        stops_with : (made : History) → MayOpen store.suite at.to.chunks made
+            → StopsBehind (outside platform) (outside end) store history from why (at.taken ++ made)
+        stops_with made may_open = record {
+          taken = at.taken;
+          mid = at.to;
+          takes = at.takes;
+          shown = took_shown end calls store history from given;
+          made = made;
+          may_open = may_open;
+          parts = refl;
+          ahead = inr (inr (looked_ahead end calls store history from given));
+          is_why = subst (λ (t : Store). IsWhyNot t (outside platform) (outside end) at.to why) at.same
+              (is_why sound (history ++ at.taken) at.to at.stands (outside platform));
+        }
+
+        ran_with : (maybe : History) → RanSettled outside crash_states store s.platform [] maybe end
+            ⊎ (OnlyReads outside crash_states s.platform end × (maybe ≡ []))
+            → RanSettled outside crash_states store platform at.taken maybe end
+        ran_with maybe rest = subst (λ (h : History). RanSettled outside crash_states store platform h maybe end) (append-nil at.taken)
+            (settled_maybe outside crash_states counts numbered store platform s.platform end at.taken [] maybe at.ran
+            (⊎_elim (λ r. inl r) (λ r. inr (r.0, refl, r.1)) rest))
+
+        failed : why ≡ PlatformFault → NotBegins store platform end history from why
+        failed is = record {
           opening = at.taken;
           maybe = o.maybe;
-          stops = record {
-            taken = at.taken;
-            mid = at.to;
-            takes = at.takes;
-            made = o.maybe;
-            may_open = o.may_open;
-            parts = refl;
-            is_why = subst (λ (t : Store). IsWhyNot t (outside platform) (outside end) at.to why) at.same
-                (is_why sound (history ++ at.taken) at.to at.stands (outside platform));
-          };
-          ran = inl (subst (λ (h : History). RanSettled outside crash_states store platform h o.maybe end) (append-nil at.taken)
-              (settled_maybe outside crash_states counts numbered store platform s.platform end at.taken [] o.maybe at.ran
-              (⊎_elim (λ r. inl r) (λ r. inr (r.0, refl, r.1)) o.ran)));
+          stops = stops_with o.maybe o.may_open;
+          sure = inl refl;
+          no_more = λ isnt. absurd (isnt is);
+          ran = inl (ran_with o.maybe o.ran);
+        }
+
+        quiet : why ≢ PlatformFault → NotBegins store platform end history from why
+        quiet isnt = record {
+          opening = at.taken;
+          maybe = [];
+          stops = stops_with [] (inl refl);
+          sure = inl refl;
+          no_more = λ other. refl;
+          ran = inl (ran_with [] (inr ((only isnt).0, refl)));
         }
 
   -- It wasn't attached.
   module _ (platform new : D) (store : Store) (history : History) (from : StoreState) (tells : IsTrue (outside platform).tells)
       (h : HasNotRecovered outside crash_states platform new store history from) (e : OpenError)
       (reads : e ≢ opens.Fault → OnlyReads outside crash_states platform new)
+      (settled : e ≢ opens.Fault → IsSettled outside crash_states new)
       (tampered : (damage : Damage) → e ≡ opens.Tampered damage → IsDamageOf (outside platform) (outside new)
       (IsOpeningPiece (outside platform).trace.written store (outside platform).anchor) damage)
       (form : (place : Place) → e ≡ opens.Form place → ⊥) where
@@ -293,28 +463,56 @@ module _ {D : Type 0} (outside : D → Outside) (crash_states : D → CrashState
       shown = is.shown;
     }
 
-    why_not_attached : (error : OpenError) → e ≡ error → IsWhyNot store (outside platform) (outside new) h.to (stop_of_open error)
-    why_not_attached opens.Unformatted is = tt
-    why_not_attached (opens.Tampered damage) is = damaged_now (reads (λ fault. cc (fault, is))) damage (tampered damage is)
-    why_not_attached (opens.Form place) is = absurd (form place is)
-    why_not_attached opens.Fault is = tt
-    why_not_attached opens.Memory is = tt
+    why_not_attached : (to : StoreState) (error : OpenError) → e ≡ error
+        → IsWhyNot store (outside platform) (outside new) to (stop_of_open error)
+    why_not_attached to opens.Unformatted is = tt
+    why_not_attached to (opens.Tampered damage) is = damaged_now (reads (λ fault. cc (fault, is))) damage (tampered damage is)
+    why_not_attached to (opens.Form place) is = absurd (form place is)
+    why_not_attached to opens.Fault is = tt
+    why_not_attached to opens.Memory is = tt
 
-    pub not_attached : NotBegins store platform new history from (stop_of_open e)
-    not_attached = record {
+    attach_failed : e ≡ opens.Fault → NotBegins store platform new history from (stop_of_open e)
+    attach_failed fault = record {
       opening = [];
       maybe = h.maybe;
       stops = record {
         taken = h.maybe;
         mid = h.to;
         takes = h.takes;
+        shown = unattached_shown (outside platform) (outside new) store history h.maybe from h.to h.takes h.shown;
         made = [];
         may_open = inl refl;
         parts = sym (append-nil h.maybe);
-        is_why = why_not_attached e refl;
+        ahead = inl (refl, open_unrefused e);
+        is_why = why_not_attached h.to e refl;
       };
-      ran = h.ran;
+      sure = inr (ap stop_of_open fault, refl);
+      no_more = λ isnt. absurd (isnt (ap stop_of_open fault));
+      ran = ⊎_elim inl (λ read. inr (read.0, read.1, ap stop_of_open fault)) h.ran;
     }
+
+    attach_read : e ≢ opens.Fault → NotBegins store platform new history from (stop_of_open e)
+    attach_read isnt = record {
+      opening = [];
+      maybe = [];
+      stops = record {
+        taken = [];
+        mid = from;
+        takes = inr (refl, refl);
+        shown = inl refl;
+        made = [];
+        may_open = inl refl;
+        parts = refl;
+        ahead = inl (refl, open_unrefused e);
+        is_why = why_not_attached from e refl;
+      };
+      sure = inl refl;
+      no_more = λ other. refl;
+      ran = inl (only_settled outside crash_states counts numbered store platform new (reads isnt) (settled isnt));
+    }
+
+    pub not_attached : NotBegins store platform new history from (stop_of_open e)
+    not_attached = ⊎_elim attach_failed attach_read (open_fault_or e)
 
   -- A new store was formatted where the anchor counted nothing, and then opened.
   module _ (platform p : D) (secret : List ℕ) (suite : Suite) (segments : ℕ)
@@ -347,20 +545,12 @@ module _ {D : Type 0} (outside : D → Outside) (crash_states : D → CrashState
       pub at_first : IsSound secret (outside p)
       at_first = sound_earlier outside crash_states counts numbered new_store p end calls.tells calls.grows at_last
 
-      -- What was written before is well formed for an anchor that counts nothing,
-      unanchored : (a : Anchor) → a ≡ (outside ran.mid).anchor → IsWellFormedLog (outside ran.mid).trace.written secret a
-      unanchored a is = record {
-        trace = subst (λ (k : List ℕ). IsWellFormedTrace (outside ran.mid).trace.written k) given.keys
-            (subst (λ (ws : List WrittenPiece). IsWellFormedTrace ws store.secret) (sym (ran.reads.written given.tells)) given.formed);
-        anchored = inl (ap (λ (x : Anchor). x.0) (is ∙ ran.reads.anchor given.tells) ∙ none given.tells);
-      }
-
-      -- so it is with the first text.
+      -- What was written before is well formed for an anchor that counts nothing, so it is with the first text.
       formed : IsWellFormedTrace (outside p).trace.written secret
       formed = ran.rest.formed at_first (record {
-        anchor = unanchored (outside ran.mid).anchor refl;
-        left = λ i a left. unanchored a
-            (ran.settled (subst (λ (b : Bool). IsTrue b) (sym ran.reads.tells) given.tells) i a left);
+        trace = subst (λ (k : List ℕ). IsWellFormedTrace (outside ran.mid).trace.written k) given.keys
+            (subst (λ (ws : List WrittenPiece). IsWellFormedTrace ws store.secret) (sym (ran.reads.written given.tells)) given.formed);
+        anchored = inl (ap (λ (x : Anchor). x.0) (ran.reads.anchor given.tells) ∙ none given.tells);
       })
 
       pub given_new : Premises (outside p) (outside end) secret new_store [] new_state
@@ -404,6 +594,7 @@ module _ {D : Type 0} (outside : D → Outside) (crash_states : D → CrashState
             taken = [];
             mid = first_state;
             takes = inr (refl, refl);
+            shown = inl refl;
             made = o.opens.made;
             opens = subst (λ (x : StoreState). MakesPartitions suite x.chunks o.opens.made o.state) same.1 o.opens.opens;
             parts = o.opens.parts ∙ ap (λ (h : History). h ++ o.opens.made) same.0;
@@ -471,13 +662,17 @@ module _ {D : Type 0} (outside : D → Outside) (crash_states : D → CrashState
             taken = [];
             mid = first_state;
             takes = inr (refl, refl);
+            shown = inl refl;
             made = o.stops.made;
             may_open = subst (λ (x : StoreState). MayOpen suite x.chunks o.stops.made) same.1 o.stops.may_open;
             parts = o.stops.parts ∙ ap (λ (h : History). h ++ o.stops.made) same.0;
+            ahead = inr (inl (none given.tells));
             is_why = why_after first_state end (one given.tells) why
                 (λ is. counts_none is (at_first end calls store history from given suite_is).tells)
                 (why_before (unread given.tells) end why there);
           };
+          sure = ⊎_elim (λ is. inl (is ∙ same.0)) (λ failed. inr (after_format_fault why failed.0, failed.1)) o.sure;
+          no_more = λ isnt. o.no_more (λ is. isnt (after_format_fault why is));
           ran = inl (settled_maybe outside crash_states counts numbered new_store platform p end [] o.opening o.maybe ran
               (⊎_elim (λ r. inl r) (λ r. let both = both_nothing o.opening o.maybe r.1 in inr (r.0, both.0, both.1)) o.ran));
         } in
@@ -490,28 +685,39 @@ module _ {D : Type 0} (outside : D → Outside) (crash_states : D → CrashState
   pub not_formatted : (platform end : D) (secret : List ℕ) (suite : Suite) (e : FormatError)
       → RanSettled outside crash_states (store_under secret suite) platform [] [] end ⊎ OnlyReads outside crash_states platform end
       → (IsTrue (outside platform).tells → (outside platform).anchor.0 ≢ 0 → OnlyReads outside crash_states platform end)
+      → (e ≢ formats.Fault → OnlyReads outside crash_states platform end × IsSettled outside crash_states end)
       → OverLogs (outside platform) (outside end) secret
       (λ store history from. ((outside platform).anchor.0 ≡ 0 → store.suite ≡ suite)
       → NotBegins store platform end history from (stop_of_format e))
-  not_formatted platform end secret suite e ran there store history from given fits = record {
+  not_formatted platform end secret suite e ran there only store history from given fits = record {
     opening = [];
     maybe = [];
     stops = record {
       taken = [];
       mid = from;
       takes = inr (refl, refl);
+      shown = inl refl;
       made = [];
       may_open = inl refl;
       parts = refl;
+      ahead = inl (refl, format_unrefused e);
       is_why = why e;
     };
-    ran = ⊎_elim
+    sure = inl refl;
+    no_more = λ other. refl;
+    ran = ⊎_elim failed
+        (λ isnt. let reads = only isnt in inl (only_settled outside crash_states counts numbered store platform end reads.0 reads.1))
+        (format_fault_or e);
+  } where
+    failed : e ≡ formats.Fault → RanSettled outside crash_states store platform [] [] end
+        ⊎ (OnlyReads outside crash_states platform end × (◌≡◌ {A = History} [] []) × (stop_of_format e ≡ PlatformFault))
+    failed fault = ⊎_elim
         (λ none. ⊎_elim
         (λ r. inl (subst (λ (t : Store). RanSettled outside crash_states t platform [] [] end)
         (λ i. record { secret = sym given.keys i; suite = sym (fits none) i }) r))
-        (λ reads. inr (reads, refl)) ran)
-        (λ some. inr (there given.tells some, refl)) (none_or_some (outside platform).anchor.0);
-  } where
+        (λ reads. inr (reads, refl, ap stop_of_format fault)) ran)
+        (λ some. inr (there given.tells some, refl, ap stop_of_format fault)) (none_or_some (outside platform).anchor.0)
+
     why : (e : FormatError) → IsWhyNot store (outside platform) (outside end) from (stop_of_format e)
     why formats.Segments = tt
     why (formats.AlreadyFormatted count) = tt

@@ -1,8 +1,13 @@
+pub mod Acknowledging
 pub mod Carrying
+pub mod Completing
+pub mod Deciding
 pub mod EndingBy
 pub mod Endings
+pub mod Following
 pub mod Hurting
 pub mod Joining
+pub mod KeptTexts
 pub mod Leaving
 pub mod MakingPartitions
 pub mod OpeningLaws
@@ -11,6 +16,7 @@ pub mod Refusing
 pub mod Scripts
 pub mod Sparing
 pub mod TellingNone
+pub mod Unaltered
 pub mod Unhurt
 pub mod Unwriting
 pub mod Whole

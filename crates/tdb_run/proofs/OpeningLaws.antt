@@ -43,6 +43,11 @@ pub if_err_three : {T E : Type 0} (r : Result T E) {P Q R S : E → Type 0} → 
 if_err_three (Ok x) all p q s = tt
 if_err_three (Err e) all p q s = all e p q s
 
+pub if_err_four : {T E : Type 0} (r : Result T E) {P Q R S U : E → Type 0} → ((e : E) → P e → Q e → R e → S e → U e)
+    → IfErr r P → IfErr r Q → IfErr r R → IfErr r S → IfErr r U
+if_err_four (Ok x) all p q s t = tt
+if_err_four (Err e) all p q s t = all e p q s t
+
 some_not_none : {T : Type 0} (x : T) → ◌≡◌ {A = Option T} (Some x) None → ⊥
 some_not_none x is = cc
 

@@ -34,9 +34,16 @@ use Rattle.tdb_overlay.proofs.LogLaws.{log_state}
 use Rattle.tdb_overlay.proofs.OneLog.{log_is_one}
 use Rattle.tdb_recover.specs.Pending.{IsTaken, Takes}
 use Rattle.tdb_chunk.specs.StoreMeans.{store_means}
-use Rattle.tdb_run.specs.Opens.{HasBoth, HasUserPartitions, IsMade, MayOpen, Opens}
-use Rattle.tdb_run.specs.Ran.{KeepsPartitions, RunRan}
+use Rattle.tdb_run.specs.Opens.{HasBoth, HasUserPartitions, IsMade, IsOpened, MayOpen, Opens}
+use Rattle.tdb_run.specs.Ran.{RunRan}
 use Rattle.tdb_run.specs.declared.status.Status.{Status}
+
+-- Where partitions 1 and 2 were both made and no copies, or neither was there, and each text that was written before led to such a state,
+-- it is so in each state that a first part of these commits leads to.
+abbrev KeepsPartitions : StoreState → List WrittenPiece → List WrittenPiece → Store → History → History → Type 0
+KeepsPartitions from before written store history all = HasUserPartitions from.chunks
+    → IsOpened store.secret before → (a : Anchor) (front rest : History) (to : StoreState)
+    → front ++ rest ≡ all → IsLog written store a (history ++ front) to → HasUserPartitions to.chunks
 
 -- the changes of a commit of a run: it makes the partitions, or writes notes
 abbrev IsOfRun : List Change → Type 0

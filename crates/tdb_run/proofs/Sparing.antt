@@ -7,6 +7,7 @@ use Rattle.tdb_base.specs.declared.suite.Suite.{Suite}
 use Rattle.tdb_base.specs.Trace.{Extends, IsNumbered, WrittenPiece}
 use Rattle.tdb_mark.specs.CommitFormat.{IsInFormat}
 use Rattle.tdb_mark.specs.CommitText.{commit_key_of, commit_of}
+use Rattle.tdb_mark.specs.Unforged.{IsUnforged}
 use Rattle.tdb_mark.specs.declared.commit.Commit.{Commit}
 use Rattle.tdb_mark.proofs.TextLemmas.{commit_of_is}
 use Rattle.tdb_model.specs.Apply.{History}
@@ -16,16 +17,15 @@ use Rattle.tdb_model.specs.declared.error.CommitError.TheVariants as refusals
 use Rattle.tdb_platform.specs.CrashStates.{CrashStates}
 use Rattle.tdb_platform.specs.Outside.{Anchor, Outside}
 use Rattle.tdb_overlay.specs.Found.{Finds, Store, in_trace, store_of_text}
-use Rattle.tdb_overlay.specs.Images.{IsReliable}
+use Rattle.tdb_overlay.specs.Images.{IsIntactIn, IsReliableUnder}
 use Rattle.tdb_overlay.specs.Log.{Adds, IsLog, IsLogOf}
 use Rattle.tdb_overlay.specs.Ran.{RanOn}
 use Rattle.tdb_overlay.specs.Sound.{IsSound}
 use Rattle.tdb_overlay.specs.StoreState.{StoreState, first_state, formatted_state}
-use Rattle.tdb_overlay.specs.WellFormedLog.{EachText, IsWellFormedTrace}
+use Rattle.tdb_overlay.specs.WellFormedLog.{IsWellFormedTrace}
 use Rattle.tdb_overlay.proofs.Chains.{chain_last-at}
 use Rattle.tdb_overlay.proofs.OneLog.{log_is_one}
 use Rattle.tdb_overlay.proofs.PutLogs.{log_still}
-use Rattle.tdb_overlay.proofs.RanLaws.{reliable_after}
 use Rattle.tdb_recover.specs.Pending.{Takes}
 use Rattle.tdb_recover.specs.Premises.{Premises}
 use Rattle.tdb_recover.specs.Settled.{RanSettled}
@@ -37,12 +37,14 @@ use Rattle.tdb_chunk.specs.declared.store_format.FormatError.TheVariants as form
 use Rattle.tdb_run.specs.Calls.{Calls}
 use Rattle.tdb_run.specs.Ends.{after_format, stop_of_commit, stop_of_format, stop_of_open}
 use Rattle.tdb_run.specs.Opened.{HasNotBegun, IsWhyNot, OverLogs}
-use Rattle.tdb_run.specs.Opens.{HasUserPartitions}
+use Rattle.tdb_run.specs.Opens.{HasUserPartitions, IsOpened}
 use Rattle.tdb_run.specs.Spared.{IsNotDamaged, IsSpared}
 use Rattle.tdb_run.specs.declared.opening.NotOpened.{NotOpened}
 use Rattle.tdb_run.specs.declared.opening.NotOpened.TheVariants.{AlreadyFormatted, Damaged, Memory, PlatformFault, Refused, Unformatted}
 use Rattle.tdb_run.specs.declared.status.Finding.TheVariants.{Form, Tampered}
 use Rattle.tdb_run.proofs.Joining.{given_new, none_at_first, at_first, it_is}
+use Rattle.tdb_run.proofs.KeptTexts.{opened_at}
+use Rattle.tdb_run.proofs.Leaving.{reliable_now}
 use Rattle.tdb_run.proofs.OpeningLaws.{whole_ran}
 
 -- a commit that is refused tells no damage of a piece
@@ -89,12 +91,12 @@ after_undamaged Memory some isnt finding is = cc is
 
 -- the commit that is taken leaves partitions 1 and 2 as a run makes them
 mid_keeps : (before : List WrittenPiece) (store : Store) (a : Anchor) (history taken : History) (from mid : StoreState)
-    → Takes before store a history from taken mid → HasUserPartitions from.chunks
-    → EachText before store.secret (λ last. HasUserPartitions last.chunks) → HasUserPartitions mid.chunks
-mid_keeps before store a history taken from mid (inr none) has each =
-    subst (λ (s : StoreState). HasUserPartitions s.chunks) (sym none.1) has
-mid_keeps before store a history taken from mid (inl is) has each =
-    let text = each is.text is.commit is.pending.was_written is.pending.accepted in
+    → IsLog before store a history from → Takes before store a history from taken mid → IsOpened store.secret before
+    → HasUserPartitions mid.chunks
+mid_keeps before store a history taken from mid log (inr none) opened =
+    subst (λ (s : StoreState). HasUserPartitions s.chunks) (sym none.1) (opened_at before store a history from log opened)
+mid_keeps before store a history taken from mid log (inl is) opened =
+    let text = opened is.text is.commit is.pending.was_written is.pending.accepted in
     let one = log_is_one before (store_of_text store.secret is.commit) store refl _ text.history (history ++ taken) text.last mid
     text.log is.log in
     subst HasUserPartitions (ap (λ (s : StoreState). s.chunks) one.1) text.holds
@@ -102,24 +104,25 @@ mid_keeps before store a history taken from mid (inl is) has each =
 module _ {D : Type 0} (outside : D → Outside) (crash_states : D → CrashStates) where
   -- so they aren't found otherwise
   no_form : (store : Store) (old new : D) (history : History) (from : StoreState) (why : NotOpened)
-      → HasNotBegun outside crash_states store old new history from why → HasUserPartitions from.chunks
-      → EachText (outside old).trace.written store.secret (λ last. HasUserPartitions last.chunks)
+      → IsLog (outside old).trace.written store (outside old).anchor history from
+      → HasNotBegun outside crash_states store old new history from why → IsOpened store.secret (outside old).trace.written
       → (place : Place) → why ≡ Damaged (Form place) → ⊥
-  no_form store old new history from why h has each place is =
+  no_form store old new history from why log h opened place is =
       let there : IsWhyNot store (outside old) (outside new) h.stops.mid (Damaged (Form place)) =
       subst (λ (w : NotOpened). IsWhyNot store (outside old) (outside new) h.stops.mid w) is h.stops.is_why in
       there.0
-      (mid_keeps (outside old).trace.written store (outside old).anchor history h.stops.taken from h.stops.mid h.stops.takes has each)
+      (mid_keeps (outside old).trace.written store (outside old).anchor history h.stops.taken from h.stops.mid log h.stops.takes opened)
 
   -- A store that was attached, and isn't open because of its partitions, isn't damaged.
   pub spared_attached : (old new : D) (secret : List ℕ) (why : NotOpened) → ((damage : Damage) → why ≢ Damaged (Tampered damage))
       → OverLogs (outside old) (outside new) secret
       (λ store history from. HasNotBegun outside crash_states store old new history from why)
-      → OverLogs (outside old) (outside new) secret (λ store history from. IsSpared outside crash_states store old from why)
-  spared_attached old new secret why untampered begins store history from given reliable has each (Tampered damage) is =
+      → OverLogs (outside old) (outside new) secret (λ store history from. IsSpared outside crash_states secret old why)
+  spared_attached old new secret why untampered begins store history from given reliable opened (Tampered damage) is =
       untampered damage is
-  spared_attached old new secret why untampered begins store history from given reliable has each (Form place) is =
-      no_form store old new history from why (begins store history from given) has each place is
+  spared_attached old new secret why untampered begins store history from given reliable opened (Form place) is =
+      no_form store old new history from why given.log (begins store history from given)
+      (subst (λ (k : List ℕ). IsOpened k (outside old).trace.written) (sym given.keys) opened) place is
 
 -- The first text of a log leaves no partition: it is a checkpoint.
 first_adds : (finds : Finds) (store : Store) (c : Commit) (added : History) (after : StoreState) → IsInFormat c
@@ -140,12 +143,11 @@ first_has_none written store count mark history last first is =
 
 -- Where only first texts were written, each text's state has partitions 1 and 2 as a run makes them if it was so before.
 texts_after : (secret : List ℕ) (old new : Outside) → IsTrue old.tells → Extends old.trace new.trace → WritesFirstText secret old new
-    → IsWellFormedTrace new.trace.written secret → EachText old.trace.written secret (λ last. HasUserPartitions last.chunks)
-    → EachText new.trace.written secret (λ last. HasUserPartitions last.chunks)
-texts_after secret old new tells grows texts formed each text c was accepted =
+    → IsWellFormedTrace new.trace.written secret → IsOpened secret old.trace.written → IsOpened secret new.trace.written
+texts_after secret old new tells grows texts formed opened text c was accepted =
     ⊎_elim
     (λ before.
-    let t = each text c before accepted in
+    let t = opened text c before accepted in
     record {
       history = t.history;
       last = t.last;
@@ -176,27 +178,59 @@ module _ {D : Type 0} (outside : D → Outside) (crash_states : D → CrashState
     (formatted_state (store_under secret suite) segments))
     (texts : WritesFirstText secret (outside platform) (outside p)) (one : IsTrue (outside platform).tells → (outside p).anchor.0 ≡ 1)
     (ran : RanSettled outside crash_states (store_under secret suite) platform [] [] p) where
+  module _ (end : D) (calls : Calls outside crash_states secret p end) (store : Store) (history : History) (from : StoreState)
+      (given : Premises (outside platform) (outside end) secret store history from) (suite_is : store.suite ≡ suite) where
+    made : RanOn outside crash_states (store_under secret suite) platform [] [] p
+    made = whole_ran outside crash_states counts numbered (store_under secret suite) platform p [] [] ran
+
+    same_store : store_under secret suite ≡ store
+    same_store = it_is outside crash_states counts numbered platform p secret suite segments none formatted texts one ran end calls store
+        history from given suite_is
+
+    sound : IsSound secret (outside p)
+    sound = at_first outside crash_states counts numbered platform p secret suite segments none formatted texts one ran end calls store
+        history from given suite_is
+
+    premises : Premises (outside p) (outside end) secret (store_under secret suite) [] (formatted_state (store_under secret suite) segments)
+    premises = given_new outside crash_states counts numbered platform p secret suite segments none formatted texts one ran end calls store
+        history from given suite_is
+
+    -- the platform is reliable after it was formatted
+    reliable_then : IsReliableUnder outside crash_states secret platform → IsReliableUnder outside crash_states secret p
+    reliable_then reliable =
+        let keys = given.keys in
+        let r = reliable_now outside crash_states counts numbered secret store platform p history [] [] from
+        (subst (λ (k : List ℕ). IsSound k (outside p)) (sym keys) sound)
+        (record {
+          tells = given.tells;
+          keys = keys;
+          unforged = subst (λ (k : List ℕ). IsUnforged (outside p).trace (commit_of (commit_key_of k))) (sym keys) sound.unforged;
+          formed = given.formed;
+          log = given.log;
+          first = given.first;
+        })
+        (subst (λ (t : Store). RanSettled outside crash_states t platform [] [] p) same_store ran)
+        (subst (λ (k : List ℕ). IsReliableUnder outside crash_states k platform) (sym keys) reliable) in
+        record {
+          honest = r.honest;
+          intact = λ i a here. (
+            store.suite,
+            subst (λ (k : List ℕ). IsIntactIn i (outside p).trace.written (record { secret = k; suite = store.suite }) a) keys
+                (r.intact i a here),
+          );
+        }
+
+    opened_then : IsOpened secret (outside platform).trace.written → IsOpened secret (outside p).trace.written
+    opened_then opened =
+        texts_after secret (outside platform) (outside p) given.tells (made.grows given.tells) texts premises.formed opened
+
   pub spared_new : (end : D) (why : NotOpened) → (why ≡ Unformatted → IsTrue (outside p).tells → (outside p).anchor.0 ≡ 0)
       → Calls outside crash_states secret p end
-      → OverLogs (outside p) (outside end) secret (λ store history from. IsSpared outside crash_states store p from why)
+      → OverLogs (outside p) (outside end) secret (λ store history from. IsSpared outside crash_states secret p why)
       → OverLogs (outside platform) (outside end) secret
-      (λ store history from. store.suite ≡ suite → IsSpared outside crash_states store platform from (after_format why))
-  spared_new end why zero calls spared store history from given suite_is reliable has each =
+      (λ store history from. store.suite ≡ suite → IsSpared outside crash_states secret platform (after_format why))
+  spared_new end why zero calls spared store history from given suite_is reliable opened =
       let new_one : Store = store_under secret suite in
-      let whole : RanOn outside crash_states new_one platform [] [] p =
-      whole_ran outside crash_states counts numbered new_one platform p [] [] ran in
-      let same : new_one ≡ store = it_is outside crash_states counts numbered platform p secret suite segments none formatted texts one ran
-      end calls store history from given suite_is in
-      let sound : IsSound secret (outside p) = at_first outside crash_states counts numbered platform p secret suite segments none formatted
-      texts one ran end calls store history from given suite_is in
-      let premises : Premises (outside p) (outside end) secret new_one [] (formatted_state new_one segments) =
-      given_new outside crash_states counts numbered platform p secret suite segments none formatted texts one ran end calls store history
-      from given suite_is in
-      let reliable_then : IsReliable outside crash_states new_one p =
-      reliable_after outside crash_states counts numbered new_one platform p [] [] whole sound
-      (subst (λ (t : Store). IsReliable outside crash_states t platform) (sym same) reliable) in
-      let each_then : EachText (outside p).trace.written secret (λ last. HasUserPartitions last.chunks) =
-      texts_after secret (outside platform) (outside p) given.tells (whole.grows given.tells) texts premises.formed
-      (subst (λ (k : List ℕ). EachText (outside platform).trace.written k (λ last. HasUserPartitions last.chunks)) given.keys each) in
-      after_undamaged why (λ is. one_not_none (one given.tells) (zero is sound.tells))
-      (spared new_one [] (formatted_state new_one segments) premises reliable_then (inr none_at_first) each_then)
+      after_undamaged why (λ is. one_not_none (one given.tells) (zero is (sound end calls store history from given suite_is).tells))
+      (spared new_one [] (formatted_state new_one segments) (premises end calls store history from given suite_is)
+      (reliable_then end calls store history from given suite_is reliable) (opened_then end calls store history from given suite_is opened))

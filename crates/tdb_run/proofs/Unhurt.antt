@@ -1,10 +1,9 @@
 -- Over a reliable platform no chunk of a store is hurt, and so no reply of its script tells damage.
 use Rattle.std.proofs.Common.{◌≡◌, inl, inr, ⊎_elim, ℕ, ◌≤◌, Bool, List, [], ◌∷◌, ◌++◌, Option, Some, None, IsTrue, refl, sym, ◌∙◌, ap, subst}
+use Rattle.std.proofs.lemmas.Option.{same_Some}
 use Rattle.std.specs.FinMap as finmap
 use Rattle.std.specs.List.{AllByRecursion}
 use Rattle.std.specs.Option.{option_and_then, option_map}
-use Rattle.tdb_base.specs.declared.names.PartId.{PartId}
-use Rattle.tdb_base.specs.declared.names.Rank.{Rank}
 use Rattle.tdb_base.specs.declared.piece.Damage.{Damage}
 use Rattle.tdb_base.specs.declared.piece.Piece.{Piece}
 use Rattle.tdb_base.specs.declared.piece.Place.{Place}
@@ -16,7 +15,6 @@ use Rattle.tdb_model.specs.Lookup.{chunk_at}
 use Rattle.tdb_platform.specs.CrashStates.{CrashStates}
 use Rattle.tdb_platform.specs.Outside.{Anchor, Outside}
 use Rattle.tdb_script.specs.declared.reply.Reply.{Reply}
-use Rattle.tdb_script.specs.declared.reply.Reply.TheVariants.{Tampered}
 use Rattle.tdb_notes.specs.NotesMachine.{Begins, IsAt, IsTold, Runs, Step}
 use Rattle.tdb_notes.specs.Script.{IsHurt, ScriptState}
 use Rattle.tdb_notes.specs.declared.notes.Notes.{Notes}
@@ -47,6 +45,7 @@ use Rattle.tdb_chunk.specs.StoreLaws.{goes_joined, ran_goes, store_itself}
 use Rattle.tdb_chunk.specs.StoreMeans.{store_means}
 use Rattle.tdb_chunk.specs.StoreView.{StoreView, head_in, store_in, written_in}
 use Rattle.tdb_chunk.proofs.Shown.{KnownChunk, in_state}
+use Rattle.tdb_run.specs.Undamaged.{TellsNone}
 use Rattle.tdb_run.proofs.Hurting.{by_bytes}
 
 -- bytes of one of the reads
@@ -162,7 +161,7 @@ module _ {D : Type 0} (outside : D → Outside) (crash_states : D → CrashState
       (now : Notes (StoreView D)) (last : ScriptState) → Lines begun first lines replies added now last
       → IsSound begun.store.secret (outside now.store.platform) → (history : History) (end : StoreState)
       → StandsAt outside begun.store history end → IsReliable outside crash_states (store_in begun.store) begun.store.platform
-      → AllByRecursion (λ reply. (part : PartId) (rank : Rank) → reply ≡ Tampered part rank → ⊥) replies
+      → AllByRecursion TellsNone replies
   session_unhurt begun first [] [] added now last is sound history end at reliable = tt
   session_unhurt begun first (line ∷ lines) (reply ∷ replies) added now last is sound history end at reliable =
       let then = ran_goes outside crash_states counts numbered begun.store is.0.store is.2 [] is.5 in
@@ -209,3 +208,13 @@ module _ {D : Type 0} (outside : D → Outside) (crash_states : D → CrashState
     next_goes SinkFault is = own_goes is
     next_goes PlatformFault is = maybe_goes is
     next_goes Memory is = ⊎_elim nothing_goes (λ some. ⊎_elim maybe_goes own_goes some) is
+
+    -- The reply to the next line, which wasn't put whole, tells no damage either.
+    pub cut_unhurt : Next SinkFault → IsSound mid.store.secret (outside new.store.platform) → (history : History) (end : StoreState)
+        → StandsAt outside mid.store history end → IsReliable outside crash_states (store_in mid.store) mid.store.platform
+        → (reply : Reply) → c.next ≡ Some reply → TellsNone reply
+    cut_unhurt is sound history end at reliable reply next part rank told =
+        let same : is.2.0 ≡ reply = same_Some is.2.0 reply (sym is.2.1 ∙ next) in
+        let step = is.2.2.holds.1 in
+        let hurt = by_bytes (store_means outside crash_states) mid.store new.store last is.2.2.line _ step part rank (same ∙ told) in
+        unhurt mid.store new.store sound history end at reliable hurt.0 hurt.1

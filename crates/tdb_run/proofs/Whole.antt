@@ -25,6 +25,7 @@ use Rattle.tdb_run.specs.declared.opening.NotOpened.{NotOpened}
 use Rattle.tdb_run.specs.declared.status.Status.{Status}
 use Rattle.tdb_run.specs.declared.status.Status.TheVariants.{Done}
 use Rattle.tdb_run.specs.declared.status.Success.TheVariants.{Formatted}
+use Rattle.tdb_run.proofs.Joining.{shown_longer}
 use Rattle.tdb_run.proofs.Leaving.{leaves}
 use Rattle.tdb_run.proofs.OpeningLaws.{premises_before, settled_then, sound_at_end}
 
@@ -42,6 +43,7 @@ opens_longer old mid new store history from opening state grows is = record {
   taken = is.taken;
   mid = is.mid;
   takes = is.takes;
+  shown = shown_longer old mid new store old.anchor history is.taken from is.mid grows is.takes is.shown;
   made = is.made;
   opens = is.opens;
   parts = is.parts;
@@ -98,8 +100,8 @@ module _ {D : Type 0} (outside : D → Outside) (crash_states : D → CrashState
                 })),
           );
         };
-        stops = inl (leaves outside crash_states counts numbered store old new history (h.opening ++ (part.added ++ part.own)) part.maybe
-            from sound p.log ran);
+        stops = inl (leaves outside crash_states counts numbered secret store old new history (h.opening ++ (part.added ++ part.own))
+            part.maybe from sound p ran);
       }
 
   -- A store was made, and no script answered.
@@ -122,7 +124,7 @@ module _ {D : Type 0} (outside : D → Outside) (crash_states : D → CrashState
           ran = inl ran;
           course = inl (h.state, h.opens, inr (segments, record { ends_so = refl; untaken = refl; no_more = (refl, refl, refl) }));
         };
-        stops = inl (leaves outside crash_states counts numbered store old s.platform history (h.opening ++ []) [] from sound p.log ran);
+        stops = inl (leaves outside crash_states counts numbered secret store old s.platform history (h.opening ++ []) [] from sound p ran);
       }
 
   -- No store was opened.
@@ -136,13 +138,13 @@ module _ {D : Type 0} (outside : D → Outside) (crash_states : D → CrashState
       added = [];
       own = [];
       maybe = h.maybe;
-      ran = ⊎_elim (λ ran. inl (whole ran)) (λ read. inr (read.0, read.1, (why, refl))) h.ran;
-      course = inr (record { why = why; ends_so = refl; stops = h.stops; untaken = refl; no_more = (refl, refl) });
+      ran = ⊎_elim (λ ran. inl (whole ran)) (λ read. inr read) h.ran;
+      course = inr (record { why = why; ends_so = refl; stops = h.stops; sure = h.sure; untaken = refl; no_more = (refl, refl, h.no_more) });
     };
     stops = ⊎_elim
-        (λ ran. inl (leaves outside crash_states counts numbered store old new history (h.opening ++ []) h.maybe from
-        (sound_at_end outside crash_states counts numbered secret store history from old new tells p) p.log (whole ran)))
-        (λ read. inr (read.0, read.1, (why, refl))) h.ran;
+        (λ ran. inl (leaves outside crash_states counts numbered secret store old new history (h.opening ++ []) h.maybe from
+        (sound_at_end outside crash_states counts numbered secret store history from old new tells p) p (whole ran)))
+        (λ read. inr read) h.ran;
   } where
     whole : RanSettled outside crash_states store old h.opening h.maybe new
         → RanSettled outside crash_states store old (h.opening ++ []) h.maybe new

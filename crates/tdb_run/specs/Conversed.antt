@@ -11,16 +11,18 @@ use Rattle.tdb_stream.specs.SourceContent.{SourceContent}
 use Rattle.tdb_run.specs.Ends.{status_of_end}
 use Rattle.tdb_run.specs.declared.status.Status.{Status}
 use Rattle.tdb_run.specs.declared.status.Status.TheVariants.{Done, Usage, AnchorCount, Damaged, PlatformFault, SourceFault, SinkFault, Memory, End, Refused}
+use Rattle.tdb_run.specs.declared.status.Success.TheVariants.{Formatted, Script}
 
 -- It ended as its script did: these lines were answered, and the sink holds what it held and the replies.
-pub record EndedAsScript {came gone : SourceContent} (c : Conversation came gone) (before after : SinkContent) (status : Status) : Type 0 where
+pub record EndedAsScript {came gone : SourceContent} (c : Conversation came gone) (before after : SinkContent)
+    (status : Status) : Type 0 where
   pub end : ScriptEnd
   pub ends_so : status ≡ status_of_end end
   pub answered : HasAnswered c end
   pub held : IsTrue before.tells → HasHeld c before.held after.held end
   pub keeps : Keeps came gone before after
 
--- how a run ends that takes nothing from the source
+-- how a run ends that takes nothing from the source: with no script that was read to its end
 abbrev pub IsAtOnce : Status → Type 0
 IsAtOnce PlatformFault = Unit {0}
 IsAtOnce Memory = Unit {0}
@@ -28,13 +30,15 @@ IsAtOnce Usage = Unit {0}
 IsAtOnce (AnchorCount formatted) = Unit {0}
 IsAtOnce (Damaged finding) = Unit {0}
 IsAtOnce (Refused refusal) = Unit {0}
-IsAtOnce (Done success) = Unit {0}
+IsAtOnce (Done (Formatted suite segments)) = Unit {0}
+IsAtOnce (Done Script) = ⊥
 IsAtOnce SourceFault = ⊥
 IsAtOnce SinkFault = ⊥
 IsAtOnce End = ⊥
 
 -- nothing was taken and nothing put
-pub record TookNothing {came gone : SourceContent} (c : Conversation came gone) (before after : SinkContent) (status : Status) : Type 0 where
+pub record TookNothing {came gone : SourceContent} (c : Conversation came gone) (before after : SinkContent)
+    (status : Status) : Type 0 where
   pub untaken : c.taken ≡ []
   pub source : gone ≡ came
   pub sink : after ≡ before

@@ -2,13 +2,16 @@ pub mod Calls
 pub mod Command
 pub mod CommandValue
 pub mod Conversed
+pub mod Digests
 pub mod Ends
 pub mod LastLine
 pub mod Opened
 pub mod Opens
 pub mod Ran
 pub mod Run
+pub mod Runs
 pub mod Scripted
 pub mod Spared
 pub mod StatusLine
+pub mod UnalteredRuns
 pub mod Undamaged

@@ -1,6 +1,6 @@
 -- How a run comes to the state in which its script begins, by the log that its anchor had at the start, and by the commit that was begun
 -- behind that.
-use Rattle.std.specs.Prelude.{◌≡◌, ◌⊎◌, ℕ, true, false, List, [], ◌∷◌, ◌++◌, Err}
+use Rattle.std.specs.Prelude.{◌≡◌, ◌≢◌, ◌⊎◌, ℕ, true, false, List, [], ◌∷◌, ◌++◌, Err}
 use Rattle.tdb_append.specs.Put.{slot_place}
 use Rattle.tdb_base.specs.declared.piece.Damage.{Damage}
 use Rattle.tdb_base.specs.Trace.{Extends}
@@ -13,7 +13,7 @@ use Rattle.tdb_model.specs.State.{State}
 use Rattle.tdb_model.specs.declared.error.CommitError.{CommitError}
 use Rattle.tdb_model.specs.declared.error.CommitError.TheVariants as refusals
 use Rattle.tdb_platform.specs.CrashStates.{CrashStates}
-use Rattle.tdb_platform.specs.Outside.{Outside}
+use Rattle.tdb_platform.specs.Outside.{Anchor, Outside}
 use Rattle.tdb_overlay.specs.Found.{Store}
 use Rattle.tdb_overlay.specs.Log.{IsLog}
 use Rattle.tdb_overlay.specs.Reading.{HasRead, OnlyReads}
@@ -22,7 +22,7 @@ use Rattle.tdb_overlay.specs.Sound.{IsSound}
 use Rattle.tdb_overlay.specs.StoreState.{StoreState, commit_on}
 use Rattle.tdb_overlay.specs.declared.recovered.Recovered.{Recovered}
 use Rattle.tdb_recover.specs.Damaged.{damaged_piece}
-use Rattle.tdb_recover.specs.Opening.{HasLookedAhead}
+use Rattle.tdb_recover.specs.Opening.{HasLookedAhead, HasShownWhole, NamesTaken, shown_anchor}
 use Rattle.tdb_recover.specs.Pending.{Takes}
 use Rattle.tdb_recover.specs.Premises.{Premises}
 use Rattle.tdb_recover.specs.Settled.{RanSettled}
@@ -95,6 +95,13 @@ pub record LookedAhead (old new : Outside) (store : Store) (taken : History) : T
   pub grows : Extends opened.trace new.trace
   pub unforged : IsUnforged opened.trace (commit_of (commit_key_of store.secret))
 
+-- Whatever commit was taken is the one that reading ahead of the log had shown whole by then.
+abbrev pub TakesShown : (old new : Outside) → {store : Store} → {anchor : Anchor} → {history : History} → {from : StoreState}
+    → {taken : History} → {mid : StoreState} → Takes old.trace.written store anchor history from taken mid → Type 0
+TakesShown old new {store} {taken = taken} takes = (taken ≡ [])
+    ⊎ ((then : Outside) × Extends then.trace new.trace
+    × ((s : HasShownWhole old then store.secret) × NamesTaken takes (shown_anchor s)))
+
 -- What a run commits before its script, behind the log that the anchor had at the start: the one commit that had been begun there, where
 -- it is taken, and that of the partitions. It read ahead of that log, unless the store is new.
 pub record OpensBehind (old new : Outside) (store : Store) (history : History) (from : StoreState) (opening : History)
@@ -102,6 +109,7 @@ pub record OpensBehind (old new : Outside) (store : Store) (history : History) (
   pub taken : History
   pub mid : StoreState
   pub takes : Takes old.trace.written store old.anchor history from taken mid
+  pub shown : TakesShown old new takes
   pub made : History
   pub opens : Opens store.suite mid.chunks made state
   pub parts : opening ≡ taken ++ made
@@ -113,9 +121,12 @@ pub record StopsBehind (old new : Outside) (store : Store) (history : History) (
   pub taken : History
   pub mid : StoreState
   pub takes : Takes old.trace.written store old.anchor history from taken mid
+  pub shown : TakesShown old new takes
   pub made : History
   pub may_open : MayOpen store.suite mid.chunks made
   pub parts : all ≡ taken ++ made
+  -- It read ahead of the log before it made or was refused the commit of the partitions, unless the store is new.
+  pub ahead : ((made ≡ []) × ((refusal : Refusal) → why ≢ Refused refusal)) ⊎ (old.anchor.0 ≡ 0) ⊎ LookedAhead old new store taken
   pub is_why : IsWhyNot store old new mid why
 
 -- The store is open behind these commits, and nothing else was committed.
@@ -130,14 +141,17 @@ pub record HasBegun {D : Type 0} (outside : D → Outside) (crash_states : D →
   pub stands : StandsAt outside s (history ++ opening) last
   pub chunks : last.chunks ≡ state
 
--- The store isn't open. Each of these commits was made, may have been made, or wasn't. Where the anchor wasn't told the calls only read.
+-- The store isn't open. A commit that had been begun and was taken is committed for sure, and nothing else may be; unless the platform
+-- failed. Where it may have failed before the anchor was told, calls only read.
 pub record HasNotBegun {D : Type 0} (outside : D → Outside) (crash_states : D → CrashStates) (store : Store) (old new : D)
     (history : History) (from : StoreState) (why : NotOpened) : Type 0 where
   pub opening : History
   pub maybe : History
   pub stops : StopsBehind (outside old) (outside new) store history from why (opening ++ maybe)
+  pub sure : (opening ≡ stops.taken) ⊎ ((why ≡ PlatformFault) × (stops.made ≡ []))
+  pub no_more : why ≢ PlatformFault → maybe ≡ []
   pub ran : RanSettled outside crash_states store old opening maybe new
-      ⊎ (OnlyReads outside crash_states old new × (opening ++ maybe ≡ []))
+      ⊎ (OnlyReads outside crash_states old new × (opening ++ maybe ≡ []) × (why ≡ PlatformFault))
 
 -- what holds of each log that the anchor had at the start, of stores like these
 abbrev pub OverLogs : Outside → Outside → List ℕ → (Store → History → StoreState → Type 0) → Type 0

@@ -1,11 +1,13 @@
 -- Partitions 1 and 2, which a run makes where neither is there.
-use Rattle.std.specs.Prelude.{◌≡◌, ◌⊎◌, ℕ, [], ◌∷◌, Option, Some, None}
+use Rattle.std.specs.Prelude.{◌≡◌, ◌⊎◌, ℕ, List, [], ◌∷◌, Option, Some, None}
 use Rattle.std.specs.FinMap.{get}
 use Rattle.tdb_base.specs.declared.suite.Suite.{Suite}
+use Rattle.tdb_base.specs.Trace.{WrittenPiece}
 use Rattle.tdb_model.specs.Apply.{History, apply_all}
 use Rattle.tdb_model.specs.Opening.{opening_changes}
 use Rattle.tdb_model.specs.State.{Partition, State}
 use Rattle.tdb_model.specs.declared.change.PartInfo.{PartInfo}
+use Rattle.tdb_overlay.specs.WellFormedLog.{EachText}
 
 -- a partition that was made, and is no copy
 abbrev pub IsMade : Option Partition → Type 0
@@ -28,6 +30,10 @@ HasNone state = (get state 1 ≡ None) × (get state 2 ≡ None)
 -- as the runs of this program leave a store
 abbrev pub HasUserPartitions : State → Type 0
 HasUserPartitions state = HasBoth state ⊎ HasNone state
+
+-- so is each state that a text of a trace leads to
+abbrev pub IsOpened : List ℕ → List WrittenPiece → Type 0
+IsOpened secret written = EachText written secret (λ last. HasUserPartitions last.chunks)
 
 -- What a run commits before its script, from one state of the database to another: where neither is there, the commit that makes
 -- both, in the suite of the store.

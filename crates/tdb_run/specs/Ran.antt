@@ -1,7 +1,10 @@
 -- What a whole run made of the log that its anchor had at the start.
-use Rattle.std.specs.Prelude.{◌≡◌, ◌⊎◌, ◌≤◌, ℕ, List, [], ◌++◌}
+use mathlib.Core.Logic.{inl, inr}
+use Rattle.std.specs.Prelude.{◌≡◌, ◌≢◌, ◌⊎◌, ◌≤◌, ℕ, List, [], ◌++◌}
 use Rattle.tdb_base.specs.declared.suite.Suite.{Suite}
 use Rattle.tdb_base.specs.Trace.{WrittenPiece}
+use Rattle.tdb_mark.specs.declared.commit.Commit.{Commit}
+use Rattle.tdb_mark.specs.Unforged.{WasWritten}
 use Rattle.tdb_model.specs.Apply.{History}
 use Rattle.tdb_model.specs.State.{State}
 use Rattle.tdb_notes.specs.NotesMachine.{Begins, IsAt, IsTold, Runs, Step}
@@ -15,19 +18,19 @@ use Rattle.tdb_serve.specs.Running.{NextRan}
 use Rattle.tdb_serve.specs.declared.script_end.ScriptEnd.{ScriptEnd}
 use Rattle.tdb_stream.specs.SourceContent.{SourceContent}
 use Rattle.tdb_overlay.specs.Found.{Store}
-use Rattle.tdb_overlay.specs.Images.{IsIntactIn, IsReliable}
+use Rattle.tdb_overlay.specs.Images.{IsIntactUnder, IsReliable, IsReliableUnder}
 use Rattle.tdb_overlay.specs.Log.{IsLog}
 use Rattle.tdb_overlay.specs.Ran.{IsFront}
 use Rattle.tdb_overlay.specs.Reading.{OnlyReads}
 use Rattle.tdb_overlay.specs.StoreState.{StoreState}
-use Rattle.tdb_overlay.specs.WellFormedLog.{EachText, IsKeptLog, IsWellFormedLog}
+use Rattle.tdb_overlay.specs.WellFormedLog.{IsAccepted, IsKeptLog, IsWellFormedLog}
 use Rattle.tdb_recover.specs.Settled.{RanSettled}
 use Rattle.tdb_chunk.specs.StoreMeans.{store_means}
 use Rattle.tdb_chunk.specs.StoreView.{StoreView, store_in}
 use Rattle.tdb_run.specs.Ends.{status_of_end, status_of_stop}
 use Rattle.tdb_run.specs.Opened.{OpensBehind, StopsBehind}
-use Rattle.tdb_run.specs.Opens.{HasUserPartitions}
 use Rattle.tdb_run.specs.declared.opening.NotOpened.{NotOpened}
+use Rattle.tdb_run.specs.declared.opening.NotOpened.TheVariants.{PlatformFault}
 use Rattle.tdb_run.specs.declared.status.Status.{Status}
 use Rattle.tdb_run.specs.declared.status.Status.TheVariants.{Done}
 use Rattle.tdb_run.specs.declared.status.Success.TheVariants.{Formatted}
@@ -65,38 +68,64 @@ pub record HasNewStore {came gone : SourceContent} (c : Conversation came gone) 
   pub untaken : c.taken ≡ []
   pub no_more : (added ≡ []) × (own ≡ []) × (maybe ≡ [])
 
--- It didn't open its store.
+-- It didn't open its store. A commit that had been begun and was taken is committed for sure, and nothing else may be; unless the platform
+-- failed.
 pub record HasNoStore {came gone : SourceContent} (store : Store) (c : Conversation came gone) (old new : Outside) (history : History)
     (from : StoreState) (status : Status) (opening added own maybe : History) : Type 0 where
   pub why : NotOpened
   pub ends_so : status ≡ status_of_stop why
   pub stops : StopsBehind old new store history from why (opening ++ maybe)
+  pub sure : (opening ≡ stops.taken) ⊎ ((why ≡ PlatformFault) × (stops.made ≡ []))
   pub untaken : c.taken ≡ []
-  pub no_more : (added ≡ []) × (own ≡ [])
+  pub no_more : (added ≡ []) × (own ≡ []) × (why ≢ PlatformFault → maybe ≡ [])
 
--- it ended as one that didn't open its store
-abbrev pub IsNotOpened : Status → Type 0
-IsNotOpened status = (why : NotOpened) × (status ≡ status_of_stop why)
+-- It opened its store, and then came to its script or had made a store without one. Or it didn't open it.
+abbrev pub Course : {D : Type 0} → (outside : D → Outside) → (crash_states : D → CrashStates) → (store : Store)
+    → {came gone : SourceContent} → Conversation came gone → D → D → History → StoreState → Status → History → History → History → History
+    → Type 0
+Course outside crash_states store c old new history from status opening added own maybe =
+    ((state : State) × OpensBehind (outside old) (outside new) store history from opening state
+    × (HasOwnScript outside crash_states store c old new status state opening added own maybe
+    ⊎ ((segments : ℕ) × HasNewStore c status store.suite segments added own maybe)))
+    ⊎ HasNoStore store c (outside old) (outside new) history from status opening added own maybe
+
+-- it didn't open its store for a fault of the platform
+abbrev pub FailsToOpen : {D : Type 0} → {outside : D → Outside} → {crash_states : D → CrashStates} → {store : Store}
+    → {came gone : SourceContent} → {c : Conversation came gone} → {old new : D} → {history : History} → {from : StoreState}
+    → {status : Status} → {opening added own maybe : History}
+    → Course outside crash_states store c old new history from status opening added own maybe → Type 0
+FailsToOpen (inl opened) = ⊥
+FailsToOpen (inr none) = none.why ≡ PlatformFault
 
 -- Behind the log that the anchor had at the start there was committed: what opens the store, the commits of the lines in their order,
--- and at most one more.
+-- and at most one more. Where the platform may have failed before it told the anchor, calls only read.
 pub record RunRan {D : Type 0} (outside : D → Outside) (crash_states : D → CrashStates) (store : Store) {came gone : SourceContent}
     (c : Conversation came gone) (old new : D) (history : History) (from : StoreState) (status : Status) : Type 0 where
   pub opening : History
   pub added : History
   pub own : History
   pub maybe : History
+  pub course : Course outside crash_states store c old new history from status opening added own maybe
   pub ran : RanSettled outside crash_states store old (opening ++ (added ++ own)) maybe new
-      ⊎ (OnlyReads outside crash_states old new × (opening ++ ((added ++ own) ++ maybe) ≡ []) × IsNotOpened status)
-  pub course : ((state : State) × OpensBehind (outside old) (outside new) store history from opening state
-      × (HasOwnScript outside crash_states store c old new status state opening added own maybe
-      ⊎ ((segments : ℕ) × HasNewStore c status store.suite segments added own maybe)))
-      ⊎ HasNoStore store c (outside old) (outside new) history from status opening added own maybe
+      ⊎ (OnlyReads outside crash_states old new × (opening ++ ((added ++ own) ++ maybe) ≡ []) × FailsToOpen course)
 
 -- an anchor's log is the history, all of these commits, and a first part of those
 abbrev pub HasAllOf : List WrittenPiece → Store → History → History → History → Anchor → Type 0
 HasAllOf written store history surely maybe anchor =
     (front : History) × (last : StoreState) × IsFront front maybe × IsLog written store anchor (history ++ (surely ++ front)) last
+
+-- no text counts more than 1
+abbrev pub HasFirstTexts : List ℕ → Outside → Type 0
+HasFirstTexts secret o = (text : List ℕ) (c : Commit) → WasWritten o.trace.written text → IsAccepted secret text c → c.count ≤ 1
+
+-- So it is where the anchor counts nothing, or a stop may leave one that does.
+pub record IsAtFirst {D : Type 0} (outside : D → Outside) (crash_states : D → CrashStates) (secret : List ℕ) (p : D) : Type 0 where
+  pub anchor : (outside p).anchor.0 ≡ 0 → HasFirstTexts secret (outside p)
+  pub left : (i : List ℕ) (a : Anchor) → now outside crash_states p i a → a.0 ≡ 0 → HasFirstTexts secret (outside p)
+
+-- no text counts more than the anchor
+abbrev pub IsCaughtUp : List ℕ → Outside → Type 0
+IsCaughtUp secret o = (text : List ℕ) (c : Commit) → WasWritten o.trace.written text → IsAccepted secret text c → c.count ≤ o.anchor.0
 
 -- What a stop leaves of calls that made some commits for sure, and at most others behind them. There is a moment up to which it leaves
 -- nothing that it could not leave before, and from which on it leaves only anchors whose log is the history before and a first part of
@@ -112,26 +141,35 @@ pub record Leaves {D : Type 0} (outside : D → Outside) (crash_states : D → C
   pub left : (i : List ℕ) (a : Anchor) → now outside crash_states new i a
       → HasAllOf (outside new).trace.written store history surely maybe a
   pub anchor : HasAllOf (outside new).trace.written store history surely maybe (outside new).anchor
-  -- each pair since is well formed where the trace was kept at the start, and intact where the platform was reliable
-  pub kept : IsKeptLog outside crash_states store.secret old → IsKeptLog outside crash_states store.secret new
-  pub kept_since : IsKeptLog outside crash_states store.secret old
+  -- the trace is well formed for each anchor since that moment, and for the platform's
+  pub kept : IsKeptLog outside crash_states store.secret new
+  pub kept_since : (i : List ℕ) (a : Anchor) → crash_states new moment i a → IsWellFormedLog (outside new).trace.written store.secret a
+  -- each pair is intact where the platform was reliable, now, and since the start
+  pub reliable : IsReliableUnder outside crash_states store.secret old → IsReliable outside crash_states store new
+  pub intact_since : IsReliableUnder outside crash_states store.secret old
       → (i : List ℕ) (a : Anchor) → crash_states new (outside old).clock i a
-      → IsWellFormedLog (outside new).trace.written store.secret a
-  pub reliable : IsReliable outside crash_states store old → IsReliable outside crash_states store new
-  pub intact_since : IsReliable outside crash_states store old
-      → (i : List ℕ) (a : Anchor) → crash_states new (outside old).clock i a → IsIntactIn i (outside new).trace.written store a
+      → IsIntactUnder i (outside new).trace.written store.secret a
+  -- while the anchor counts nothing, or a stop may leave one that does, no text counts more than 1
+  pub first : IsAtFirst outside crash_states store.secret new
 
--- The same of a whole run, where its anchor was told; where it wasn't, calls only read.
+-- The same of a whole run. Where the platform may have failed before it told the anchor, calls only read.
 abbrev pub StopsOf : {D : Type 0} → (outside : D → Outside) → (crash_states : D → CrashStates) → (store : Store)
     → {came gone : SourceContent} → (c : Conversation came gone) → (old new : D) → (history : History) → (from : StoreState)
     → (status : Status) → RunRan outside crash_states store c old new history from status → Type 0
 StopsOf outside crash_states store c old new history from status r =
     Leaves outside crash_states store old new history (r.opening ++ (r.added ++ r.own)) r.maybe
-    ⊎ (OnlyReads outside crash_states old new × (r.opening ++ ((r.added ++ r.own) ++ r.maybe) ≡ []) × IsNotOpened status)
+    ⊎ (OnlyReads outside crash_states old new × (r.opening ++ ((r.added ++ r.own) ++ r.maybe) ≡ []) × FailsToOpen r.course)
 
--- Where partitions 1 and 2 were both made and no copies, or neither was there, and each text that was written before led to such a state,
--- it is so in each state that a first part of these commits leads to.
-abbrev pub KeepsPartitions : StoreState → List WrittenPiece → List WrittenPiece → Store → History → History → Type 0
-KeepsPartitions from before written store history all = HasUserPartitions from.chunks
-    → EachText before store.secret (λ last. HasUserPartitions last.chunks) → (a : Anchor) (front rest : History) (to : StoreState)
-    → front ++ rest ≡ all → IsLog written store a (history ++ front) to → HasUserPartitions to.chunks
+-- the commit that is taken on the way, or none, by how the run went
+abbrev pub IsTakenOf : {D : Type 0} → {outside : D → Outside} → {crash_states : D → CrashStates} → {store : Store}
+    → {came gone : SourceContent} → {c : Conversation came gone} → {old new : D} → {history : History} → {from : StoreState}
+    → {status : Status} → {opening added own maybe : History}
+    → Course outside crash_states store c old new history from status opening added own maybe → History → Type 0
+IsTakenOf (inl opened) taken = opened.1.taken ≡ taken
+IsTakenOf (inr none) taken = none.stops.taken ≡ taken
+
+-- no commit was taken that had been begun behind the log of the anchor
+abbrev pub TakesNone : {D : Type 0} → {outside : D → Outside} → {crash_states : D → CrashStates} → {store : Store}
+    → {came gone : SourceContent} → {c : Conversation came gone} → {old new : D} → {history : History} → {from : StoreState}
+    → {status : Status} → RunRan outside crash_states store c old new history from status → Type 0
+TakesNone r = IsTakenOf r.course []

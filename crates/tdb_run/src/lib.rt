@@ -8,6 +8,7 @@
 mod command;
 mod ended;
 mod last_line;
+mod laws;
 mod opening;
 mod running;
 mod status;
@@ -15,5 +16,6 @@ mod status;
 pub use command::{Command, read_command};
 pub use ended::Ended;
 pub use last_line::put_last_line;
+pub use laws::{digests_decide, runs_follow, unaltered_runs_follow};
 pub use running::run;
 pub use status::{Finding, Refusal, Status, Success};

@@ -88,7 +88,7 @@ pub(crate) fn open_store<P: Platform>(
     ensures never { IfErr result (λ e. e.1 ≢ stops.AlreadyFormatted) }
     // over a reliable platform it isn't found damaged
     ensures reliable { IfErr result (λ e. OverLogs (P.outside platform) (P.outside e.0) secret.now
-        (λ store history from. IsSpared P.outside P.crash_states store platform from e.1)) }
+        (λ store history from. IsSpared P.outside P.crash_states secret.now platform e.1)) }
 {
     match Store::attach(alloc, platform, secret) {
         Ok(store) => with_partitions(alloc, store),
@@ -127,7 +127,7 @@ pub(crate) fn new_store<P: Platform>(
     ensures never { IfErr result (λ e. e.1 ≢ stops.Unformatted) }
     ensures reliable { IfErr result (λ e. OverLogs (P.outside platform) (P.outside e.0) secret.now
         (λ store history from. ((P.outside platform).anchor.0 ≡ 0 → store.suite ≡ suite)
-        → IsSpared P.outside P.crash_states store platform from e.1)) }
+        → IsSpared P.outside P.crash_states secret.now platform e.1)) }
 {
     match Store::format(alloc, platform, secret, suite, segments) {
         Ok(platform) => match open_store(alloc, platform, secret) {

@@ -11,7 +11,7 @@ ghost use Rattle.tdb_run.specs.Conversed.{Conversed, TellsFaults};
 ghost use Rattle.tdb_run.specs.Ends.{status_of_end};
 ghost use Rattle.tdb_run.specs.Run as runs;
 ghost use Rattle.tdb_run.specs.Scripted.{RanScript};
-ghost use Rattle.tdb_run.specs.declared.status.Status.TheVariants.{AnchorCount, Done, PlatformFault, SinkFault, Usage};
+ghost use Rattle.tdb_run.specs.declared.status.Status.TheVariants.{AnchorCount, Done, End, PlatformFault, SinkFault, Usage};
 ghost use Rattle.tdb_run.specs.declared.status.Success.TheVariants.{Formatted, Script};
 
 use crate::command::{Command, read_command};
@@ -66,6 +66,7 @@ pub fn run<S: Source, K: Sink, P: Platform>(
     ensures formatted { (suite : Suite) (segments : ℕ) → result.status ≡ Done (Formatted suite segments)
         → IsFormat (texts words.now) suite segments }
     ensures scripts { result.status ≡ Done Script → (suite : Suite) (segments : ℕ) → IsFormat (texts words.now) suite segments → ⊥ }
+    ensures script_ends { result.status ≡ End → (suite : Suite) (segments : ℕ) → IsFormat (texts words.now) suite segments → ⊥ }
 
     // The sink holds the replies to the lines taken, and the last line. Where the platform tells its trace, that has no collision and no
     // forgery, and the anchor had a log: whatever the device shows, the run starts from that log's state, or from that state with the

@@ -1,10 +1,15 @@
-use Rattle.std.proofs.Common.{◌≢◌, subst, sym, Err}
+use Rattle.std.proofs.Common.{◌≡◌, ◌≢◌, ◌∙◌, ap, subst, sym, Err}
 use Rattle.tdb_base.specs.declared.suite.Suite.{Suite}
 use Rattle.tdb_model.specs.HasCommitted.{HasCommitted, IsCommitted}
 use Rattle.tdb_model.specs.Opening.{opening_changes}
+use Rattle.tdb_model.specs.declared.error.CommitError.{CommitError}
+use Rattle.tdb_overlay.specs.Growth.{IsSettled}
+use Rattle.tdb_overlay.specs.Reading.{OnlyReads}
+use Rattle.tdb_overlay.proofs.ReadingLaws.{reads_nothing}
 use Rattle.tdb_overlay.proofs.RanLaws.{sound_earlier}
 use Rattle.tdb_chunk.specs.StoreMeans.{store_means}
 use Rattle.tdb_chunk.specs.StoreView.{StoreView, store_in}
+use Rattle.tdb_run.specs.Ends.{stop_of_commit}
 use Rattle.tdb_run.specs.Opened.{IsWhyNot}
 use Rattle.tdb_run.specs.declared.opening.NotOpened.{NotOpened}
 use Rattle.tdb_run.specs.declared.opening.NotOpened.TheVariants.{Damaged}
@@ -58,6 +63,19 @@ returns-clause-calls_err g c =
     (subst (λ (s : Suite). HasCommitted {C = StoreView g.row.P.Denot} (store_means outside states) (opening_changes s) c.args.store c.commit.new.self
     {T = Unit {0}} (Err c.in-Err.error)) c.suite-suite.ensures
     c.in-Err.ensures.committed) c.requires.missing c.close.result c.close.ensures.platform
+
+pub returns-clause-only_read : goal.returns-clause-only_read
+returns-clause-only_read g c isnt =
+    let outside = g.P.Platform.outside in
+    let states = g.P.Platform.crash_states in
+    let old = c.args.store in
+    let same : c.commit.new.self ≡ old = c.in-Err.ensures.refused (λ fault. isnt
+    (c.stop_of_commit.ensures ∙ ap (λ (e : CommitError). stop_of_commit e c.slot_of-place.result) fault)) in
+    let back : c.close.result ≡ old.platform = c.close.ensures.platform ∙ ap (λ (s : StoreView g.row.P.Denot). s.platform) same in (
+      subst (λ (p : g.row.P.Denot). OnlyReads outside states old.platform p) (sym back)
+          (reads_nothing outside states g.met.P.Platform.counts old.platform),
+      subst (λ (p : g.row.P.Denot). IsSettled outside states p) (sym back) (c.requires.ready.settled c.requires.running),
+    )
 
 pub returns-clause-untampered : goal.returns-clause-untampered
 returns-clause-untampered g c damage = subst (λ (why : NotOpened). why ≢ Damaged (Tampered damage)) (sym c.stop_of_commit.ensures)

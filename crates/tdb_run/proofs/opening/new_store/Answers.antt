@@ -1,5 +1,6 @@
-use Rattle.std.proofs.Common.{⊎_elim, [], sym, subst, arith}
+use Rattle.std.proofs.Common.{◌≢◌, ⊎_elim, [], sym, subst, arith}
 use Rattle.tdb_chunk.specs.Formatting.{store_under}
+use Rattle.tdb_chunk.specs.declared.store_format.FormatError.TheVariants as formats
 use Rattle.tdb_run.specs.Opened.{HasNotBegun}
 use Rattle.tdb_run.specs.Spared.{IsNotDamaged}
 use Rattle.tdb_run.specs.declared.opening.NotOpened.{NotOpened}
@@ -55,17 +56,19 @@ pub returns-in-Err-clause-not_opened : goal.returns-in-Err-clause-not_opened
 returns-in-Err-clause-not_opened g c store history from given fits =
     let outside = g.P.Platform.outside in
     let states = g.P.Platform.crash_states in
+    let right : c.in-Err.error ≢ formats.Segments =
+    λ is. ⊎_elim (λ few. absurd (omega (arith, few, c.requires.least))) (λ many. absurd (omega (arith, many, c.requires.most)))
+    (c.in-Err.ensures.segments is) in
     subst (λ (why : NotOpened). HasNotBegun outside states store c.args.platform c.in-Err.platform history from why)
     (sym c.stop_of_format.ensures)
     (not_formatted outside states g.met.P.Platform.counts g.met.P.Platform.numbered c.args.platform c.in-Err.platform c.args.secret.now
     c.args.suite c.in-Err.error c.in-Err.ensures.ran_err
-    (λ tells some. c.in-Err.ensures.over_a_store tells some
-    (λ is. ⊎_elim (λ few. absurd (omega (arith, few, c.requires.least))) (λ many. absurd (omega (arith, many, c.requires.most)))
-    (c.in-Err.ensures.segments is)))
+    (λ tells some. c.in-Err.ensures.over_a_store tells some right)
+    (λ isnt. c.in-Err.ensures.only_read isnt right)
     store history from given fits)
 
 pub returns-in-Err-open_store-clause-reliable : goal.returns-in-Err-open_store-clause-reliable
-returns-in-Err-open_store-clause-reliable g c store history from given fits reliable has each =
+returns-in-Err-open_store-clause-reliable g c store history from given fits reliable opened =
     let outside = g.P.Platform.outside in
     let states = g.P.Platform.crash_states in
     subst IsNotDamaged (sym c.after_format.ensures)
@@ -73,8 +76,8 @@ returns-in-Err-open_store-clause-reliable g c store history from given fits reli
     c.args.suite c.args.segments c.in-Ok.ensures.was_unformatted c.in-Ok.ensures.formatted c.in-Ok.ensures.texts c.in-Ok.ensures.count
     c.in-Ok.ensures.ran c.in-Err-open_store.platform c.in-Err-open_store.why (λ is. (c.in-Err-open_store.ensures.unformatted is).0)
     c.in-Err-open_store.ensures.calls_err c.in-Err-open_store.ensures.reliable store history from given
-    (fits (c.in-Ok.ensures.was_unformatted given.tells)) reliable has each)
+    (fits (c.in-Ok.ensures.was_unformatted given.tells)) reliable opened)
 
 pub returns-in-Err-clause-reliable : goal.returns-in-Err-clause-reliable
-returns-in-Err-clause-reliable g c store history from given fits reliable has each =
+returns-in-Err-clause-reliable g c store history from given fits reliable opened =
     subst IsNotDamaged (sym c.stop_of_format.ensures) (format_undamaged c.in-Err.error)

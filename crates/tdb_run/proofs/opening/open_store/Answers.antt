@@ -4,7 +4,7 @@ use Rattle.tdb_run.specs.Spared.{IsNotDamaged}
 use Rattle.tdb_run.specs.declared.opening.NotOpened.{NotOpened}
 use Rattle.tdb_run.specs.Calls.{Calls}
 use Rattle.tdb_run.proofs.Joining.{not_attached, not_opened_attached, opened_attached}
-use Rattle.tdb_run.proofs.OpeningLaws.{calls_then, if_err_three, if_ok_two}
+use Rattle.tdb_run.proofs.OpeningLaws.{calls_then, if_err_four, if_err_three, if_ok_two}
 use Rattle.tdb_run.proofs.Sparing.{attach_undamaged, spared_attached}
 use Rattle.tdb_run.proofs.Unwriting.{calls_unwritten, unwritten_then}
 use Rattle.tdb_run.proofs.opening.open_store.Goals as goal
@@ -15,7 +15,7 @@ returns-in-Ok-clause-opened g c = if_ok_two c.with_partitions.result
     c.args.platform c.in-Ok.store c.args.secret.now c.in-Ok.ensures.secret
     (calls_unwritten g.P.Platform.outside g.P.Platform.crash_states g.met.P.Platform.counts c.args.secret.now c.args.platform
     c.in-Ok.store.platform c.in-Ok.ensures.unwritten)
-    c.in-Ok.ensures.attached c.in-Ok.ensures.ahead end calls opened)
+    c.in-Ok.ensures.attached c.in-Ok.ensures.ahead c.in-Ok.ensures.ready c.in-Ok.ensures.running end calls opened)
     c.with_partitions.ensures.calls c.with_partitions.ensures.opened
 
 pub returns-in-Ok-clause-calls : goal.returns-in-Ok-clause-calls
@@ -29,13 +29,14 @@ returns-in-Ok-clause-calls g c = if_ok_two c.with_partitions.result
     c.with_partitions.ensures.calls c.with_partitions.ensures.calls
 
 pub returns-in-Ok-clause-not_opened : goal.returns-in-Ok-clause-not_opened
-returns-in-Ok-clause-not_opened g c = if_err_three c.with_partitions.result
-    (λ e calls opened why. not_opened_attached g.P.Platform.outside g.P.Platform.crash_states g.met.P.Platform.counts
+returns-in-Ok-clause-not_opened g c = if_err_four c.with_partitions.result
+    (λ e calls opened why only. not_opened_attached g.P.Platform.outside g.P.Platform.crash_states g.met.P.Platform.counts
     g.met.P.Platform.numbered c.args.platform c.in-Ok.store c.args.secret.now c.in-Ok.ensures.secret
     (calls_unwritten g.P.Platform.outside g.P.Platform.crash_states g.met.P.Platform.counts c.args.secret.now c.args.platform
     c.in-Ok.store.platform c.in-Ok.ensures.unwritten)
-    c.in-Ok.ensures.attached e.0 e.1 calls opened why)
+    c.in-Ok.ensures.attached c.in-Ok.ensures.ahead c.in-Ok.ensures.ready c.in-Ok.ensures.running e.0 e.1 calls opened why only)
     c.with_partitions.ensures.calls_err c.with_partitions.ensures.not_opened c.with_partitions.ensures.why
+    c.with_partitions.ensures.only_read
 
 pub returns-in-Ok-clause-calls_err : goal.returns-in-Ok-clause-calls_err
 returns-in-Ok-clause-calls_err g c = if_err_three c.with_partitions.result
@@ -69,6 +70,7 @@ returns-in-Err-clause-not_opened g c store history from given =
     (sym c.stop_of_open.ensures)
     (not_attached outside states g.met.P.Platform.counts g.met.P.Platform.numbered c.args.platform c.in-Err.platform store history from
     given.tells (c.in-Err.ensures.not_attached store history from given) c.in-Err.error c.in-Err.ensures.reads_err
+    c.in-Err.ensures.settled_err
     (λ damage is. c.in-Err.ensures.tampered damage is store history from given)
     (λ place is. c.in-Err.ensures.form place is store history from given))
 
@@ -83,7 +85,7 @@ returns-in-Ok-clause-reliable g c = if_err_three c.with_partitions.result
     c.with_partitions.ensures.untampered (returns-in-Ok-clause-not_opened g c) (returns-in-Ok-clause-not_opened g c)
 
 pub returns-in-Err-clause-reliable : goal.returns-in-Err-clause-reliable
-returns-in-Err-clause-reliable g c store history from given reliable has each =
+returns-in-Err-clause-reliable g c store history from given reliable opened =
     subst IsNotDamaged (sym c.stop_of_open.ensures)
     (attach_undamaged c.in-Err.error (λ damage is. c.in-Err.ensures.reliable damage is store history from given reliable)
     (λ place is. c.in-Err.ensures.form place is store history from given))
