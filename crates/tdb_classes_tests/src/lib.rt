@@ -7,4 +7,8 @@
 #![tactic(auto)]
 
 #[cfg(test)]
+mod apps;
+#[cfg(test)]
 mod class;
+#[cfg(test)]
+mod stored;
