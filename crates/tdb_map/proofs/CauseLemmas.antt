@@ -10,7 +10,7 @@ use Rattle.tdb_map.specs.declared.pieces.PieceError.{PieceError}
 use Rattle.tdb_map.specs.declared.pieces.PieceError.TheVariants as piece_error
 use Rattle.tdb_map.specs.declared.layer.UpdateError.{UpdateError}
 use Rattle.tdb_map.specs.declared.layer.UpdateError.TheVariants as errors
-use Rattle.tdb_map.specs.Edits.{Edits, edit_at, edits_in, is_within}
+use Rattle.tdb_map.specs.Edits.{Edits, HasEdit, edits_in, is_within}
 use Rattle.tdb_map.specs.UpdateCause.{update_error, IsUpdateCause}
 use Rattle.tdb_map.proofs.NumberLemmas.{within_of}
 
@@ -49,10 +49,6 @@ first_edit false edit rest is h = cc is
 later_edit : (test : Bool) (edit : Option Piece) (rest : Option (Option Piece)) → cond test (Some edit) rest ≡ None → rest ≡ None
 later_edit true edit rest h = absurd (cc h)
 later_edit false edit rest h = h
-
--- a rank of the tree that has an edit
-abbrev pub HasEdit : ℕ → ℕ → Edits → Type 0
-HasEdit height number edits = (rank : ℕ) × (rank / 64 ^ height ≡ number) × (edit_at edits rank ≡ None → ⊥)
 
 one_of : (height number : ℕ) (e : ℕ × Option Piece) (es : Edits) (n : ℕ) (test : Bool) → is_within height number (number + 1) e.0 ≡ test → 0 < cond test (1 + n) n → (0 < n → HasEdit height number es) → HasEdit height number (e ∷ es)
 one_of height number e es n true is some f =

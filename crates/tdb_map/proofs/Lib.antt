@@ -5,4 +5,5 @@ pub mod WalkLemmas
 pub mod RewriteLemmas
 pub mod UpdateLaws
 pub mod CauseLemmas
+pub mod LaidLemmas
 pub mod SealLemmas

@@ -1,5 +1,5 @@
 -- Edits of a tree: what ranks are to have.
-use Rattle.std.specs.Prelude.{ℕ, ◌+◌, ◌/◌, ◌^◌, Bool, ◌&&◌, nat_eq, nat_le, nat_lt, cond, List, [], ◌∷◌, Option, Some, None}
+use Rattle.std.specs.Prelude.{◌≡◌, ℕ, ◌+◌, ◌/◌, ◌^◌, Bool, ◌&&◌, nat_eq, nat_le, nat_lt, cond, List, [], ◌∷◌, Option, Some, None}
 use Rattle.std.specs.Map.{lookup}
 use Rattle.tdb_base.specs.declared.piece.Piece.{Piece}
 
@@ -13,6 +13,10 @@ edit_at edits rank = lookup (nat_eq rank) edits
 abbrev pub edit_or : Option (Option Piece) → Option Piece → Option Piece
 edit_or None leaf = leaf
 edit_or (Some edit) leaf = edit
+
+-- an edit is of a rank in the tree of the height with the number
+abbrev pub HasEdit : ℕ → ℕ → Edits → Type 0
+HasEdit height number edits = (rank : ℕ) × (rank / 64 ^ height ≡ number) × (edit_at edits rank ≡ None → ⊥)
 
 -- What a rank has by the edits, where it had this before them.
 abbrev pub edited : Edits → ℕ → Option Piece → Option Piece

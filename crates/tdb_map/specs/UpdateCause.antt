@@ -1,5 +1,5 @@
 -- Why an update failed.
-use Rattle.std.specs.Prelude.{◌≡◌, Err}
+use Rattle.std.specs.Prelude.{◌≡◌, ℕ, Err}
 use Rattle.tdb_base.specs.declared.piece.NoRoom.{NoRoom}
 use Rattle.tdb_seg.specs.SegmentSpace.{SegmentSpace, place_in}
 use Rattle.tdb_map.specs.declared.pieces.PieceError.{PieceError}
@@ -20,6 +20,6 @@ IsUpdateCause full cause (errors.Piece error) = (error ≡ piece_error.Memory �
 IsUpdateCause full cause (errors.Room refusal) = full refusal
 IsUpdateCause full cause errors.Memory = Unit {0}
 
--- as many bytes as the refusal needs don't fit, with no segment kept free
-abbrev pub IsFull : SegmentSpace → NoRoom → Type 0
-IsFull space refusal = place_in space refusal.need 0 ≡ Err refusal
+-- The refusal needs so many bytes, and as many don't fit, with no segment kept free.
+abbrev pub IsFull : SegmentSpace → ℕ → NoRoom → Type 0
+IsFull space length refusal = (refusal.need ≡ length) × (place_in space refusal.need 0 ≡ Err refusal)

@@ -27,6 +27,7 @@ fn leaf_below<P: Pieces>(
     ensures at { IfOk result (λ leaf. IsAt (nodes_of (P.texts pieces.new) tree.now) height number root rank leaf) }
     ensures cause { IfErr result (IsTreeCause (P.shown pieces.old) (P.shown pieces.new) (P.misfits pieces.new)
         (nodes_of (P.texts pieces.new) tree.now) tree.now (λ r. r ≡ rank) height number root) }
+    ensures goes { P.goes pieces.old pieces.new }
     ensures grows { Grows (P.texts pieces.old) (P.texts pieces.new) }
     ensures shows { Shows (P.shown pieces.old) (P.shown pieces.new) height }
 {
@@ -53,6 +54,7 @@ pub fn lookup<P: Pieces>(
     ensures at { IfOk result (λ leaf. HasAt (nodes_of (P.texts pieces.new) tree.now) MAP_HEIGHT tree.now.root rank.0 leaf) }
     ensures cause { IfErr result (IsTreeCause (P.shown pieces.old) (P.shown pieces.new) (P.misfits pieces.new)
         (nodes_of (P.texts pieces.new) tree.now) tree.now (λ r. r ≡ rank.0) MAP_HEIGHT 0 tree.now.root) }
+    ensures goes { P.goes pieces.old pieces.new }
     ensures grows { Grows (P.texts pieces.old) (P.texts pieces.new) }
     ensures shows { Shows (P.shown pieces.old) (P.shown pieces.new) MAP_HEIGHT }
 {

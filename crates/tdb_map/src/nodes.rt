@@ -52,6 +52,7 @@ pub(crate) fn fetch_node<P: Pieces>(
     ensures each { IfOk result (λ node. (k : ℕ) → IsEntry (entry node.value.entries k)) }
     ensures cause { IfErr result (IsPieceCause (P.shown pieces.old) (P.shown pieces.new)
         (IsUnfit (P.misfits pieces.new) tree.now level number piece.now) piece.now) }
+    ensures goes { P.goes pieces.old pieces.new }
     ensures grows { Grows (P.texts pieces.old) (P.texts pieces.new) }
     ensures shows { Shows (P.shown pieces.old) (P.shown pieces.new) 1 }
 {
@@ -80,6 +81,7 @@ pub(crate) fn node_of<P: Pieces>(
     ensures cause { IfErr result (λ error. (error ≡ Memory) ⊎ ((piece : APiece) × (root ≡ Some piece)
         × IsPieceCause (P.shown pieces.old) (P.shown pieces.new)
         (IsUnfit (P.misfits pieces.new) tree.now level number piece) piece error)) }
+    ensures goes { P.goes pieces.old pieces.new }
     ensures grows { Grows (P.texts pieces.old) (P.texts pieces.new) }
     ensures shows { Shows (P.shown pieces.old) (P.shown pieces.new) 1 }
 {

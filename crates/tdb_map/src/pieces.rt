@@ -53,6 +53,9 @@ pub trait Pieces {
     /// The texts that digests are known to lead to.
     ghost texts: { Self → Texts };
 
+    /// One value of it came of another by fetching alone.
+    ghost goes: { Self → Self → Type 0 };
+
     /// Whether a piece with this text doesn't fit the other pieces.
     ghost misfits: { Self → APiece → List ℕ → Type 0 };
 
@@ -62,6 +65,13 @@ pub trait Pieces {
         ensures digest { IfOk result (λ bytes. sha256 bytes.items ≡ piece.now.digest.0) }
         ensures last { IfOk result (λ bytes. IsTrue (shown self.new).tells → IsShownLast (shown self.new) piece.now bytes.items) }
         ensures cause { IfErr result (IsPieceCause (shown self.old) (shown self.new) (misfits self.new piece.now) piece.now) }
+        ensures goes { goes self.old self.new }
         ensures grows { Grows (texts self.old) (texts self.new) }
         ensures shows { Shows (shown self.old) (shown self.new) 1 };
+
+    /// Each came of itself.
+    ghost goes_still: { (p : Self) → goes p p };
+
+    /// What came of a value that came of another came of that one.
+    ghost goes_on: { (p q r : Self) → goes p q → goes q r → goes p r };
 }

@@ -3,7 +3,7 @@ ghost use Rattle.std.specs.Prelude.{◌+◌, ◌*◌, ◌^◌, ◌≤◌, ◌≡
 ghost use Rattle.tdb_node.specs.Node.{IsEntry, IsInNodeFormat};
 ghost use Rattle.tdb_map.specs.Nodes.{IsNodeRecord};
 ghost use Rattle.tdb_map.specs.Tree.{entry};
-ghost use Rattle.tdb_map.specs.Laid.{Lays, laid_nodes};
+ghost use Rattle.tdb_map.specs.Laid.{Lays, LaysNodes, laid_nodes, node_record_length};
 ghost use Rattle.tdb_map.specs.Rewritten.{Becomes};
 ghost use Rattle.tdb_map.specs.UpdateCause.{IsUpdateCause, IsFull};
 
@@ -76,7 +76,9 @@ pub(crate) fn store<L: Layer>(
     requires number { (number + 1) * 64 ^ suc level ≤ 1073741824 }
     requires each { (k : ℕ) → IsEntry (entry after.now.entries k) }
     ensures lays { Lays (L.laid layer.old) (L.laid layer.new) 1 }
-    ensures cause { IfErr result (IsUpdateCause (IsFull (L.space layer.new)) (λ _. ⊥)) }
+    ensures lays_nodes { LaysNodes tree.now (λ l n. (l ≡ level) × (n ≡ number)) (L.laid layer.old) (L.laid layer.new)
+        (L.space layer.old) (L.space layer.new) }
+    ensures cause { IfErr result (IsUpdateCause (IsFull (L.space layer.new) (node_record_length tree.now)) (λ _. ⊥)) }
     ensures lies { IfOk result (λ then. IsEntry root → IsEntry then) }
     ensures becomes { IfOk result (Becomes (laid_nodes tree.now (L.laid layer.old) (L.laid layer.new)) level number root
         before.now.entries after.now.entries) }

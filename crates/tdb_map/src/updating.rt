@@ -1,11 +1,11 @@
 //! Edits of a tree.
-ghost use Rattle.std.specs.Prelude.{◌≡◌, ◌+◌, ◌*◌, ◌^◌, ◌<◌, ◌≤◌, None, ℕ, IfOk, IfErr, length};
+ghost use Rattle.std.specs.Prelude.{◌≡◌, ◌+◌, ◌*◌, ◌^◌, ◌<◌, ◌≤◌, suc, None, ℕ, IfOk, IfErr, length};
 ghost use Rattle.tdb_node.specs.Node.{IsEntry};
 ghost use Rattle.tdb_map.specs.Shown.{Shows};
 ghost use Rattle.tdb_map.specs.Nodes.{Grows, IsOneText, nodes_of};
 ghost use Rattle.tdb_map.specs.TreeCause.{IsTreeCause};
-ghost use Rattle.tdb_map.specs.Edits.{edit_at, edits_in};
-ghost use Rattle.tdb_map.specs.Laid.{Lays, laid_nodes, with_laid};
+ghost use Rattle.tdb_map.specs.Edits.{HasEdit, edit_at, edits_in};
+ghost use Rattle.tdb_map.specs.Laid.{IsEditedNode, Lays, LaysNodes, laid_nodes, node_record_length, with_laid};
 ghost use Rattle.tdb_map.specs.Rewritten.{Rewritten};
 ghost use Rattle.tdb_map.specs.Updated.{EditsLie, EditsFit, IsUpdated, OnlyReaches};
 ghost use Rattle.tdb_map.specs.UpdateCause.{IsUpdateCause, IsFull};
@@ -35,11 +35,14 @@ fn rewrite<P: Pieces, L: Layer>(
     requires number { (number + 1) * 64 ^ height ≤ 1073741824 }
     requires edits { EditsLie edits.now.entries }
     ensures shows { Shows (P.shown pieces.old) (P.shown pieces.new) (height * edits_in height number (number + 1) edits.now.entries) }
-    ensures cause { IfErr result (IsUpdateCause (IsFull (L.space layer.new))
+    ensures cause { IfErr result (IsUpdateCause (IsFull (L.space layer.new) (node_record_length tree.now))
         (IsTreeCause (P.shown pieces.old) (P.shown pieces.new) (P.misfits pieces.new)
         (nodes_of (P.texts pieces.new) tree.now) tree.now (λ rank. edit_at edits.now.entries rank ≡ None → ⊥) height number root)) }
+    ensures goes { P.goes pieces.old pieces.new }
     ensures grows { Grows (P.texts pieces.old) (P.texts pieces.new) }
     ensures lays { Lays (L.laid layer.old) (L.laid layer.new) (height * edits_in height number (number + 1) edits.now.entries) }
+    ensures lays_nodes { LaysNodes tree.now (λ level at. (level < height) × HasEdit (suc level) at edits.now.entries)
+        (L.laid layer.old) (L.laid layer.new) (L.space layer.old) (L.space layer.new) }
     ensures lies { IfOk result (λ then. IsEntry root → IsEntry then) }
     ensures rewritten { IfOk result (Rewritten (nodes_of (P.texts pieces.new) tree.now)
         (laid_nodes tree.now (L.laid layer.old) (L.laid layer.new)) edits.now.entries height number root) }
@@ -99,11 +102,14 @@ pub fn update<P: Pieces, L: Layer>(
         (laid_nodes tree.now (L.laid layer.old) (L.laid layer.new)) edits.now.entries MAP_HEIGHT 0 tree.now.root) }
     ensures lies { IfOk result (λ root. IsEntry tree.now.root → IsEntry root) }
     ensures lays { Lays (L.laid layer.old) (L.laid layer.new) (MAP_HEIGHT * length edits.now.entries) }
+    ensures lays_nodes { LaysNodes tree.now (IsEditedNode MAP_HEIGHT edits.now.entries) (L.laid layer.old)
+        (L.laid layer.new) (L.space layer.old) (L.space layer.new) }
     ensures shows { Shows (P.shown pieces.old) (P.shown pieces.new) (MAP_HEIGHT * length edits.now.entries) }
-    ensures cause { IfErr result (IsUpdateCause (IsFull (L.space layer.new))
+    ensures cause { IfErr result (IsUpdateCause (IsFull (L.space layer.new) (node_record_length tree.now))
         (IsTreeCause (P.shown pieces.old) (P.shown pieces.new) (P.misfits pieces.new)
         (nodes_of (P.texts pieces.new) tree.now) tree.now (λ rank. edit_at edits.now.entries rank ≡ None → ⊥)
         MAP_HEIGHT 0 tree.now.root)) }
+    ensures goes { P.goes pieces.old pieces.new }
     ensures grows { Grows (P.texts pieces.old) (P.texts pieces.new) }
 {
     rewrite(alloc, pieces, layer, tree, edits, MAP_HEIGHT, 0, tree.root)

@@ -27,6 +27,7 @@ fn walk_below<P: Pieces>(
     ensures walked { OnOk result (HasWalked (nodes_of (P.texts pieces.new) tree.now) height number root found.old.items found.new.items) }
     ensures cause { IfErr result (IsTreeCause (P.shown pieces.old) (P.shown pieces.new) (P.misfits pieces.new)
         (nodes_of (P.texts pieces.new) tree.now) tree.now (λ _. Unit {0}) height number root) }
+    ensures goes { P.goes pieces.old pieces.new }
     ensures grows { Grows (P.texts pieces.old) (P.texts pieces.new) }
     ensures shows { Shows (P.shown pieces.old) (P.shown pieces.new) (node_count height) }
 {
@@ -64,6 +65,7 @@ pub fn walk<P: Pieces>(
     ensures ascends { IfOk result (λ entries. Ascends 0 (64 ^ MAP_HEIGHT) entries.items) }
     ensures cause { IfErr result (IsTreeCause (P.shown pieces.old) (P.shown pieces.new) (P.misfits pieces.new)
         (nodes_of (P.texts pieces.new) tree.now) tree.now (λ _. Unit {0}) MAP_HEIGHT 0 tree.now.root) }
+    ensures goes { P.goes pieces.old pieces.new }
     ensures grows { Grows (P.texts pieces.old) (P.texts pieces.new) }
     ensures shows { Shows (P.shown pieces.old) (P.shown pieces.new) (node_count MAP_HEIGHT) }
 {

@@ -34,6 +34,7 @@ loop-digit-init g t c =
     let nodes = nodes_of (g.P.Pieces.texts c.fetch_node.new.pieces) c.args.tree.now in
     let node = c.in_ok-node.node.value.entries in
     record {
+      goes = c.fetch_node.ensures.goes;
       grows = c.fetch_node.ensures.grows;
       node = subst (λ (root : Option Piece). HasNode nodes (c.args.height - 1) c.args.number root node) (sym c.in-Some.is) c.in_ok-node.ensures.node;
       shows = shows_fewer _ _ 1 _ c.fetch_node.ensures.shows (omega arith);
@@ -90,6 +91,7 @@ loop-digit-preserved g t c =
     let node = c.in_ok-node.node.value.entries in
     let later = nodes_grow (texts mid) (texts new) tree c.walk_below.ensures.grows in
     record {
+      goes = g.met.P.Pieces.goes_on c.args.pieces.now mid new c.loop-digit.invariant.goes c.walk_below.ensures.goes;
       grows = grows_then (texts c.args.pieces.now) (texts mid) (texts new) c.loop-digit.invariant.grows c.walk_below.ensures.grows;
       node = has_node_later (nodes_of (texts mid) tree) (nodes_of (texts new) tree) later below c.args.number c.args.root node c.loop-digit.invariant.node;
       shows = shows_then (shown c.args.pieces.now) (shown mid) (shown new) _ _ _ c.loop-digit.invariant.shows c.walk_below.ensures.shows (count_next c.loop-digit.digit (node_count below));

@@ -13,6 +13,7 @@ invariant-loop-digit g l =
     let texts = g.P.Pieces.texts in
     let shown = g.P.Pieces.shown in
     record {
+      goes : g.P.Pieces.goes l.fn.pieces l.pieces;
       grows : Grows (texts l.fn.pieces) (texts l.pieces);
       node : HasNode (nodes_of (texts l.pieces) l.tree) (l.height - 1) l.number l.fn.root l.node.value.entries;
       shows : Shows (shown l.fn.pieces) (shown l.pieces) (1 + l.digit * node_count (l.height - 1));
