@@ -263,6 +263,15 @@ cp kept anchor
 rm kept
 whole "anchors of other lengths"
 
+# With another store's secret the last text isn't one, and its slot is told: that of the third text is the one at 512.
+new_store
+head -c 32 /dev/zero | tr '\0' 't' >foreign
+status=0
+"$program" device anchor foreign run <get >replies || status=$?
+answers "another secret" 4 "form 512"
+rm foreign
+whole "another secret"
+
 # What is altered is told: a byte of the note, a byte of the last commit text, and the device of before.
 put_byte 262992 j
 tdb run <get
