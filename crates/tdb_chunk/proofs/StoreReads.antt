@@ -1,5 +1,5 @@
 -- A read of a store that owns its platform is one of a store of chunks.
-use Rattle.std.proofs.Common.{◌≡◌, ◌≢◌, inl, ℕ, ◌+◌, ◌≤◌, Bool, true, false, List, [], ◌∷◌, ◌++◌, length, Option, Some, None, Result, Ok, Err, IfErr, IfOk, IsTrue, is_some, refl, sym, ◌∙◌, ap, subst, arith, append_assoc, append-nil, length-append}
+use Rattle.std.proofs.Common.{◌≡◌, ◌≢◌, ◌⊎◌, inl, ℕ, ◌+◌, ◌≤◌, Bool, true, false, List, [], ◌∷◌, ◌++◌, length, Option, Some, None, Result, Ok, Err, IfErr, IfOk, IsTrue, is_some, refl, sym, ◌∙◌, ap, subst, arith, append_assoc, append-nil, length-append}
 use Rattle.std.proofs.lemmas.Bool.{false≢true}
 use Rattle.std.proofs.lemmas.List.{append_cancel_left}
 use Rattle.std.specs.FinMap as finmap
@@ -44,7 +44,7 @@ use Rattle.tdb_overlay.specs.Log.{IsLog}
 use Rattle.tdb_overlay.proofs.RanLaws.{ran_reads}
 use Rattle.tdb_overlay.proofs.Telling.{infos_covered}
 use Rattle.tdb_chunk.specs.Reading.{HasShown, IsDamageOf, IsLate, name_of}
-use Rattle.tdb_chunk.specs.Shown.{Between, IsDamageOfChunk, IsMalformedChunk, IsVerifiedChunk, WasShown}
+use Rattle.tdb_chunk.specs.Shown.{Between, IsDamageOfChunk, IsMalformedChunk, IsPieceOf, IsVerifiedChunk, WasShown}
 use Rattle.tdb_chunk.specs.Standing.{IsInState, IsReady, StandsAt, StoreGoes, StoreRan}
 use Rattle.tdb_chunk.specs.StoreLaws.{ran_goes, store_itself, tells_before}
 use Rattle.tdb_chunk.specs.StoreMeans.{store_means}
@@ -388,6 +388,18 @@ module _ {P : Type 0} (outside : P → Outside) (crash_states : P → CrashState
   as_seen seen old later new {result} is then has =
       subst (λ (s : StoreView P). HasRead (store_means outside crash_states) part rank s new result) is
       (subst (λ (s : StoreView P). HasRead (store_means outside crash_states) part rank seen s result) then has)
+
+-- nothing was read, or the chunk's record was shown with its digest
+abbrev pub IsUnhidden : {P : Type 0} → (P → Outside) → StoreView P → StoreView P → ℕ → ℕ → Type 0
+IsUnhidden outside old new part rank = ((outside new.platform).trace ≡ (outside old.platform).trace)
+    ⊎ ((piece : Piece) × IsPieceOf old part rank piece × HasShown piece (outside old.platform) (outside new.platform) (λ shown. Unit {0}))
+
+pub unhidden_as : {P : Type 0} (outside : P → Outside) (seen old later new : StoreView P) (part rank : ℕ) {X : Type 0} → seen ≡ old → later ≡ new
+    → (X → IsTrue (outside seen.platform).tells → IsUnhidden outside seen later part rank)
+    → X → IsTrue (outside old.platform).tells → IsUnhidden outside old new part rank
+unhidden_as outside seen old later new part rank {X} is then has =
+    subst (λ (s : StoreView _). X → IsTrue (outside s.platform).tells → IsUnhidden outside s new part rank) is
+    (subst (λ (s : StoreView _). X → IsTrue (outside seen.platform).tells → IsUnhidden outside seen s part rank) then has)
 
 -- a store is the same under an equal secret
 pub with_secret : {P : Type 0} (platform : P) (log : Recovered) (stopped : Bool) (a b : List ℕ) → a ≡ b

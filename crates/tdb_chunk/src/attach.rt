@@ -11,6 +11,7 @@ ghost use Rattle.tdb_overlay.specs.Reading.{OnlyReads};
 ghost use Rattle.tdb_overlay.specs.Required.{IsOpeningPiece};
 ghost use Rattle.tdb_overlay.specs.StoreState.{StoreState};
 ghost use Rattle.tdb_recover.specs.Damaged.{IsDamageOf};
+ghost use Rattle.tdb_recover.specs.FirstText.{HasFirstText};
 ghost use Rattle.tdb_recover.specs.Opening.{HasLookedAhead, HasNotRecovered, StaysOrTakes};
 ghost use Rattle.tdb_recover.specs.Premises.{Premises};
 ghost use Rattle.tdb_recover.specs.Reads.{ReadsAtMost};
@@ -37,6 +38,9 @@ impl<P: Platform> Store<P> {
         ensures attached { IfOk result (λ s. (store : found.Store) (history : History) (from : StoreState)
             → Premises (P.outside platform) (P.outside s.platform) secret.now store history from
             → HasAttached P.outside P.crash_states platform store history from s) }
+        // the text that the anchor named was written under the secret
+        ensures accepted { IfOk result (λ s. IsTrue (P.outside platform).tells
+            → HasFirstText secret.now (P.outside platform).anchor (P.outside platform) (P.outside s.platform)) }
         // no other piece was read than those of the log and of that commit, which is taken by what they show
         ensures ahead { IfOk result (λ s. IsTrue (P.outside platform).tells
             → HasLookedAhead (P.outside platform) (P.outside s.platform) secret.now s.log) }

@@ -63,6 +63,10 @@ pub(crate) fn read_chunk<P: Platform>(
         × (IsTrue (P.outside platform.old).tells
         → HasShown piece.now (P.outside platform.old) (P.outside platform.new) (λ shown. (plain : List ℕ)
         → IsSealedRecord (partition_key keys.old leader.now.home leader.now.birth) (name_of leader.now rank.0) plain shown → ⊥)) }
+    // want of memory hides no damage
+    ensures memory { result ≡ Err answers.Memory → IsTrue (P.outside platform.old).tells
+        → ((P.outside platform.new).trace ≡ (P.outside platform.old).trace)
+        ⊎ HasShown piece.now (P.outside platform.old) (P.outside platform.new) (λ shown. Unit {0}) }
     ensures stands { IsTrue (P.outside platform.old).honest → StandsIn (P.outside platform.old).image piece.now → (damage : Damage)
         → result ≢ Err (answers.Tampered damage) }
     ensures quiet { result ≢ Err answers.Fault → (P.outside platform.new).faults ≡ (P.outside platform.old).faults }

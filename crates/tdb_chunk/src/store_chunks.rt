@@ -2,9 +2,13 @@
 ghost use Rattle.tdb_model.specs.HasCommitted.{HasCommitted, IsCommittable};
 ghost use Rattle.tdb_model.specs.HasListed.{HasInfo, HasListed};
 ghost use Rattle.tdb_model.specs.HasRead.{HasRead};
-ghost use Rattle.std.specs.Prelude.{◌≡◌, ◌≢◌, IfErr};
+ghost use Rattle.std.specs.Prelude.{◌≡◌, ◌≢◌, ◌⊎◌, Err, IfErr, IsTrue};
+ghost use Rattle.tdb_base.specs.declared.piece.Piece.{Piece};
 ghost use Rattle.tdb_model.specs.declared.error.CommitError.TheVariants as refusals;
+ghost use Rattle.tdb_model.specs.declared.error.ReadError.TheVariants as answers;
 ghost use Rattle.tdb_chunk.specs.CommitFacts.{stops};
+ghost use Rattle.tdb_chunk.specs.Reading.{HasShown};
+ghost use Rattle.tdb_chunk.specs.Shown.{IsPieceOf};
 
 use crate::reading::read_chunk;
 use crate::store::Store;
@@ -29,7 +33,14 @@ impl<P: Platform> Chunks for Store<P> {
 
     ghost lawful = { store_lawful P.outside P.crash_states P.counts P.numbered };
 
-    fn read(&mut self, alloc: Global, part: PartId, rank: Rank) -> Result<Vec<u8>, ReadError> {
+    // Want of memory hides no damage: nothing was read, or the chunk's record was shown with its digest.
+    fn read(&mut self, alloc: Global, part: PartId, rank: Rank) -> Result<Vec<u8>, ReadError>
+        ensures read { HasRead (store_means P.outside P.crash_states) part rank self.old self.new result }
+        ensures unhidden { result ≡ Err answers.Memory → IsTrue (P.outside self.old.platform).tells
+            → ((P.outside self.new.platform).trace ≡ (P.outside self.old.platform).trace)
+            ⊎ ((piece : Piece) × IsPieceOf self.old part.0 rank.0 piece
+            × HasShown piece (P.outside self.old.platform) (P.outside self.new.platform) (λ shown. Unit {0})) }
+    {
         if self.stopped {
             return Err(ReadError::Stopped);
         }

@@ -7,6 +7,7 @@ pub mod Carrying
 pub mod Composing
 pub mod Counted
 pub mod Ends
+pub mod FirstRead
 pub mod Noting
 pub mod Only
 pub mod Opened

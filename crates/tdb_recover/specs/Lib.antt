@@ -3,6 +3,7 @@ pub mod AheadSteps
 pub mod Chain
 pub mod Damaged
 pub mod Explained
+pub mod FirstText
 pub mod Opening
 pub mod Pending
 pub mod Premises

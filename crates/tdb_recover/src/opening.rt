@@ -15,6 +15,7 @@ ghost use Rattle.tdb_platform.specs.Outside.{Rose};
 ghost use Rattle.tdb_recover.specs.Chain.{EachLog, IsExplainedIn, ReadsOnlyIn};
 ghost use Rattle.tdb_recover.specs.Damaged.{IsDamageOf};
 ghost use Rattle.tdb_recover.specs.Explained.{IsCaused};
+ghost use Rattle.tdb_recover.specs.FirstText.{HasFirstText};
 ghost use Rattle.tdb_recover.specs.Opening.{HasLookedAhead, HasNotRecovered, HasRecovered, StaysOrTakes};
 ghost use Rattle.tdb_recover.specs.Premises.{Premises};
 ghost use Rattle.tdb_recover.specs.Reads.{ReadsAtMost, ReadsOnly};
@@ -45,6 +46,8 @@ fn open_log<P: Platform>(
     ensures reads { OnlyReads P.outside P.crash_states platform.old platform.new }
     ensures head { IfOk result (λ log. (log.head.count ≡ count) × (log.head.mark ≡ mark)) }
     ensures counts { IfOk result HasCounts }
+    ensures accepted { IsTrue (P.outside platform.old).tells
+        → IfOk result (λ _. HasFirstText keys.now (count, mark.0) (P.outside platform.old) (P.outside platform.new)) }
     ensures recovered { IfOk result (λ log. EachLog (P.outside platform.old) (P.outside platform.new) keys.now
         (λ whole. whole.anchor ≡ (count, mark.0)
         → IsRecovered (needed (P.outside platform.old).trace.written whole.store whole.anchor) whole.store log whole.last)) }
@@ -129,6 +132,9 @@ pub fn read_log<P: Platform>(
     ensures at_head { IsTrue (P.outside platform.old).tells
         → IfOk result (λ log. (P.outside platform.old).anchor ≡ (log.head.count, log.head.mark.0)) }
     ensures counts { IfOk result HasCounts }
+    // its last text was written under the secret
+    ensures accepted { IsTrue (P.outside platform.old).tells → IfOk result (λ _. HasFirstText keys.now (P.outside platform.old).anchor
+        (P.outside platform.old) (P.outside platform.new)) }
     // what was recovered is the log's state, whatever the device showed, told by pieces that the log needs
     ensures recovered { IfOk result (λ log. (store : Store) (history : History) (last : StoreState)
         → Premises (P.outside platform.old) (P.outside platform.new) keys.now store history last
@@ -183,6 +189,9 @@ pub fn recover<P: Platform>(
     ensures at_head { IsTrue (P.outside platform.old).tells
         → IfOk result (λ log. (P.outside platform.new).anchor ≡ (log.head.count, log.head.mark.0)) }
     ensures counts { IfOk result HasCounts }
+    // the text that the anchor named was written under the secret
+    ensures accepted { IsTrue (P.outside platform.old).tells → IfOk result (λ _. HasFirstText keys.now (P.outside platform.old).anchor
+        (P.outside platform.old) (P.outside platform.new)) }
     // what is open is the anchor's log, and behind it at most one commit that was begun there, whatever the device showed
     ensures recovered { IfOk result (λ log. (store : Store) (history : History) (from : StoreState)
         → Premises (P.outside platform.old) (P.outside platform.new) keys.now store history from

@@ -1,15 +1,20 @@
 //! The texts of a log, read from the last one back to that of the last checkpoint.
-ghost use Rattle.std.specs.Prelude.{◌≡◌, ◌≢◌, ◌+◌, ◌<◌, ◌≤◌, [], ◌∷◌, List, length, reverse, Err, IfOk, IfErr, IsTrue};
+ghost use Rattle.std.specs.Prelude.{◌≡◌, ◌≢◌, ◌+◌, ◌<◌, ◌≤◌, [], ◌∷◌, ℕ, List, length, reverse, Err, Some, IfOk, IfErr, IsTrue};
+ghost use Rattle.sha2.specs.Sha256.{sha256};
 ghost use Rattle.std.specs.List.{AllByRecursion};
 ghost use Rattle.tdb_append.specs.Put.{slot_place};
+ghost use Rattle.tdb_base.specs.Trace.{with_read};
 ghost use Rattle.tdb_base.specs.declared.piece.Digest.{Digest};
+ghost use Rattle.tdb_base.specs.declared.piece.Place.{Place};
 ghost use Rattle.tdb_mark.specs.declared.commit.Commit.{Commit};
 ghost use Rattle.tdb_mark.specs.CommitFormat.{IsInFormat};
+ghost use Rattle.tdb_mark.specs.CommitText.{commit_key_of, commit_of};
 ghost use Rattle.tdb_overlay.specs.Reading.{OnlyReads};
 ghost use Rattle.tdb_recover.specs.Chain.{EachLog, EndsWith, IsBehind, IsExplainedIn, IsTextOf, ReadsOnlyIn};
 ghost use Rattle.tdb_recover.specs.Explained.{IsCaused, IsExplained};
+ghost use Rattle.tdb_recover.specs.FirstText.{HasFirstText};
 ghost use Rattle.tdb_recover.specs.Reads.{ReadsAtMost, ReadsOnly};
-ghost use Rattle.tdb_recover.specs.declared.error.OpenError.TheVariants.{Fault};
+ghost use Rattle.tdb_recover.specs.declared.error.OpenError.TheVariants.{Fault, Form};
 
 use crate::error::OpenError;
 use std::alloc::Global;
@@ -40,6 +45,11 @@ fn read_text<P: Platform>(
     ensures format { IfOk result IsInFormat }
     ensures text { IsTrue (P.outside platform.old).tells → IfOk result (λ text. (c : Commit)
         → IsTextOf (P.outside platform.old).trace.written (P.outside platform.new).trace keys.now mark.now.0 c → text ≡ c) }
+    // it was written under the secret
+    ensures accepted { IsTrue (P.outside platform.old).tells → IfOk result (λ text. (bytes : List ℕ)
+        × ((P.outside platform.new).trace ≡ with_read (P.outside platform.old).trace (slot_place count) 256 bytes)
+        × (sha256 bytes ≡ mark.now.0) × (commit_of (commit_key_of keys.now) bytes ≡ Some text)) }
+    ensures misread { (place : Place) → result ≡ Err (Form place) → place ≡ record { 0 = slot_place count } }
     ensures only { IsTrue (P.outside platform.old).tells
         → IfOk result (λ _. ReadsOnly (λ piece. piece
         ≡ record { place = record { 0 = slot_place count }; length = 256; digest = mark.now }) (P.outside platform.old)
@@ -72,6 +82,8 @@ fn read_newest<P: Platform>(
     ensures reads { OnlyReads P.outside P.crash_states platform.old platform.new }
     ensures format { IfOk result IsInFormat }
     ensures counts { IfOk result (λ text. (text.count ≡ count) × (count ≤ text.base + 1000)) }
+    ensures accepted { IsTrue (P.outside platform.old).tells
+        → IfOk result (λ _. HasFirstText keys.now (count, mark.now.0) (P.outside platform.old) (P.outside platform.new)) }
     ensures ends { IfOk result (λ text. EachLog (P.outside platform.old) (P.outside platform.new) keys.now
         (λ log. log.anchor ≡ (count, mark.now.0)
         → EndsWith (P.outside platform.old).trace.written keys.now log.chain text [])) }
@@ -150,6 +162,8 @@ pub(crate) fn read_chain<P: Platform>(
     ensures base { IfOk result (λ chain. chain.base.base ≡ chain.base.count) }
     ensures counts { IfOk result (λ chain. (chain.base.count ≤ count) × (count ≤ chain.base.count + 1000)) }
     ensures commits { IfOk result (λ chain. AllByRecursion (IsBehind chain.base) (reverse chain.commits.items)) }
+    ensures accepted { IsTrue (P.outside platform.old).tells
+        → IfOk result (λ _. HasFirstText keys.now (count, mark.now.0) (P.outside platform.old) (P.outside platform.new)) }
     ensures ends { IfOk result (λ chain. EachLog (P.outside platform.old) (P.outside platform.new) keys.now
         (λ log. log.anchor ≡ (count, mark.now.0)
         → EndsWith (P.outside platform.old).trace.written keys.now log.chain chain.base (reverse chain.commits.items))) }

@@ -16,6 +16,7 @@ use Rattle.tdb_recover.proofs.Answering.{if_err_and}
 use Rattle.tdb_recover.proofs.Bases.{base_step, given_at_chain, is_recovered, rest_begins, table_in, table_opening}
 use Rattle.tdb_recover.proofs.Composing.{explained_then, given_before, given_then, tells_then, written_then, written_back}
 use Rattle.tdb_recover.proofs.Counted.{most_as, most_then}
+use Rattle.tdb_recover.proofs.FirstRead.{first_longer}
 use Rattle.tdb_recover.proofs.Only.{only_as, only_then}
 use Rattle.tdb_recover.proofs.Showing.{explained_as}
 use Rattle.tdb_recover.proofs.opening.open_log.Goals as goal
@@ -234,3 +235,18 @@ returns-clause-most_ok g c =
     (most_then outside states (n + 1) 1 (n + 2) old mid then (omega arith) first second c.in_ok-chain.ensures.most_ok
     c.read_segments.ensures.most)
     c.replay.ensures.most
+
+pub returns-clause-accepted : goal.returns-clause-accepted
+returns-clause-accepted g c t =
+    let outside = g.P.Platform.outside in
+    let states = g.P.Platform.crash_states in
+    let old = c.args.platform.now in
+    let mid = c.read_chain.new.platform in
+    let then = c.read_segments.new.platform in
+    let new = c.replay.new.platform in
+    let first = c.read_chain.ensures.reads in
+    let both = reads_then outside states g.met.P.Platform.counts old mid then first c.read_segments.ensures.reads in
+    first_longer c.args.keys.now (c.args.count, c.args.mark.0) (outside old) (outside then) (outside new)
+    (first_longer c.args.keys.now (c.args.count, c.args.mark.0) (outside old) (outside mid) (outside then) (c.in_ok-chain.ensures.accepted t)
+    (c.read_segments.ensures.reads.grows (tells_then outside states old mid first t)))
+    (c.replay.ensures.reads.grows (tells_then outside states old then both t))

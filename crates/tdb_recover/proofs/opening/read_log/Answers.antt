@@ -1,13 +1,16 @@
-use Rattle.std.proofs.Common.{◌+◌, ◌-◌, ◌*◌, List, ap, arith}
+use Rattle.std.proofs.Common.{◌+◌, ◌-◌, ◌*◌, List, ap, sym, subst, arith}
 use Rattle.tdb_base.specs.Trace.{Trace, WrittenPiece}
+use Rattle.tdb_platform.specs.Outside.{Anchor}
 use Rattle.tdb_overlay.specs.Needed.{needed}
 use Rattle.tdb_overlay.specs.Recovered.{IsRecovered}
 use Rattle.tdb_overlay.specs.Required.{IsOpeningPiece}
+use Rattle.tdb_recover.specs.FirstText.{HasFirstText}
 use Rattle.tdb_recover.specs.Reads.{ReadsOnly}
 use Rattle.tdb_recover.specs.declared.error.OpenError.TheVariants.{Tampered, Form}
 use Rattle.tdb_recover.proofs.Answering.{if_err_is, if_ok_as}
 use Rattle.tdb_recover.proofs.Composing.{explained_then, given_then, tells_then, written_back}
 use Rattle.tdb_recover.proofs.Counted.{most_none, most_then}
+use Rattle.tdb_recover.proofs.FirstRead.{first_earlier}
 use Rattle.tdb_recover.proofs.Only.{only_none, only_then}
 use Rattle.tdb_recover.proofs.Showing.{explained_as}
 use Rattle.tdb_recover.proofs.Taken.{is_given, whole_log}
@@ -116,3 +119,15 @@ returns-in-Ok-clause-most_ok g c =
 pub returns-in-Err-clause-most : goal.returns-in-Err-clause-most
 returns-in-Err-clause-most g c =
     most_none 2002 (g.P.Platform.outside c.args.platform.now) (g.P.Platform.outside c.begin.new.platform) c.begin.ensures.trace
+
+pub returns-in-Ok-clause-accepted : goal.returns-in-Ok-clause-accepted
+returns-in-Ok-clause-accepted g c t =
+    let outside = g.P.Platform.outside in
+    let states = g.P.Platform.crash_states in
+    let old = c.args.platform.now in
+    let mid = c.begin.new.platform in
+    let new = c.open_log.new.platform in
+    let keys = c.args.keys.now in
+    if_ok_as c.open_log.result _ _ (c.open_log.ensures.accepted (tells_then outside states old mid c.begin.ensures.reads t))
+    (λ r is. first_earlier keys (outside old).anchor (outside old) (outside mid) (outside new) (c.begin.ensures.trace t)
+    (subst (λ (a : Anchor). HasFirstText keys a (outside mid) (outside new)) (sym (c.in-Ok.ensures.given t)) is))

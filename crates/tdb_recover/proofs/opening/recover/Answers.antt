@@ -8,6 +8,7 @@ use Rattle.tdb_recover.proofs.Composing.{tells_then}
 use Rattle.tdb_recover.proofs.Counted.{most_as, most_opened, most_same}
 use Rattle.tdb_recover.proofs.Opened.{IsLogRead, known, looked, may_have_taken, ok_is_no_err, shown, stays_or_takes}
 use Rattle.tdb_recover.proofs.Opened.{stopped_reading, took_it, took_nothing}
+use Rattle.tdb_recover.proofs.FirstRead.{first_longer, ok_always}
 use Rattle.tdb_recover.proofs.Carrying.{reads_unless_fault, writes_reads, writes_then}
 use Rattle.tdb_recover.proofs.Reliable.{no_damage}
 use Rattle.tdb_recover.proofs.opening.recover.Goals as goal
@@ -301,3 +302,29 @@ returns-in-Err-look_ahead-clause-most g c =
     most_opened g.P.Platform.outside g.P.Platform.crash_states c.in-Ok.log.head c.args.platform.now c.read_log.new.platform
     c.look_ahead.new.platform c.in-Ok.ensures.counts.commits c.read_log.ensures.reads c.look_ahead.ensures.reads c.in-Ok.ensures.most_ok
     c.look_ahead.ensures.most c.look_ahead.ensures.none
+
+pub returns-in-Ok-Some-clause-accepted : goal.returns-in-Ok-Some-clause-accepted
+returns-in-Ok-Some-clause-accepted g c t =
+    let outside = g.P.Platform.outside in
+    let states = g.P.Platform.crash_states in
+    let old = c.args.platform.now in
+    let mid = c.read_log.new.platform in
+    let then = c.look_ahead.new.platform in
+    let new = c.take.new.platform in
+    let keys = c.args.keys.now in
+    let both = reads_then outside states g.met.P.Platform.counts old mid then c.read_log.ensures.reads c.look_ahead.ensures.reads in
+    ok_always c.take.result
+    (first_longer keys (outside old).anchor (outside old) (outside then) (outside new)
+    (first_longer keys (outside old).anchor (outside old) (outside mid) (outside then) (c.in-Ok.ensures.accepted t)
+    (c.look_ahead.ensures.reads.grows (tells_then outside states old mid c.read_log.ensures.reads t)))
+    (c.take.ensures.unwritten.grows (tells_then outside states old then both t)))
+
+pub returns-in-Ok-None-clause-accepted : goal.returns-in-Ok-None-clause-accepted
+returns-in-Ok-None-clause-accepted g c t =
+    let outside = g.P.Platform.outside in
+    let states = g.P.Platform.crash_states in
+    let old = c.args.platform.now in
+    let mid = c.read_log.new.platform in
+    first_longer c.args.keys.now (outside old).anchor (outside old) (outside mid) (outside c.look_ahead.new.platform)
+    (c.in-Ok.ensures.accepted t)
+    (c.look_ahead.ensures.reads.grows (tells_then outside states old mid c.read_log.ensures.reads t))

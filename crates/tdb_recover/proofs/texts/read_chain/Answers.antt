@@ -12,6 +12,7 @@ use Rattle.tdb_recover.proofs.Behind.{behind_pushed, reverse_push}
 use Rattle.tdb_recover.proofs.Composing.{caused_later, explained_then, given_before, given_then, tells_then, written_then, written_back}
 use Rattle.tdb_recover.proofs.Counted.{most_as, most_then}
 use Rattle.tdb_recover.proofs.Ends.{base_not_later}
+use Rattle.tdb_recover.proofs.FirstRead.{first_longer}
 use Rattle.tdb_recover.proofs.Only.{only_then}
 use Rattle.tdb_recover.proofs.Showing.{explained_as}
 use Rattle.tdb_recover.proofs.texts.read_chain.Goals as goal
@@ -22,6 +23,7 @@ loop-text-init g c = record {
   format = c.in_ok-text.ensures.format;
   counts = let h = c.in_ok-text.ensures.counts in (omega (arith, h.0), omega (arith, h.1));
   commits = subst (λ (l : List Commit). AllByRecursion (IsBehind c.in_ok-text.text) (reverse l)) (sym c.new-commits.ensures.items) tt;
+  accepted = c.in_ok-text.ensures.accepted;
   ends = λ t log given at. subst (λ (l : List Commit). EndsWith (g.P.Platform.outside c.args.platform.now).trace.written c.args.keys.now log.chain c.in_ok-text.text (reverse l)) (sym c.new-commits.ensures.items) (c.in_ok-text.ensures.ends t log given at);
   quiet = c.in_ok-text.ensures.quiet (λ same. cc same);
   only = c.in_ok-text.ensures.only;
@@ -95,6 +97,8 @@ loop-text-preserved g c =
       format = c.in_ok-earlier.ensures.format;
       counts = (omega (arith, so_far.counts.0, behind.later), omega (arith, so_far.counts.1, behind.base));
       commits = subst (λ (l : List Commit). AllByRecursion (IsBehind earlier) (reverse l)) (sym c.in_ok-push.ensures.items) (behind_pushed earlier text commits behind so_far.commits);
+      accepted = λ t. first_longer keys (c.args.count, c.args.mark.now.0) (outside old) (outside mid) (outside new) (so_far.accepted t)
+          (c.read_before.ensures.reads.grows (tells_then outside states old mid first t));
       ends = λ t log given at.
           let then = tells_then outside states old mid first t in
           let before = given_before (outside old).trace.written (outside mid).trace (outside new).trace keys log (g.met.P.Platform.numbered mid then) (c.read_before.ensures.reads.grows then) given in
@@ -172,3 +176,6 @@ returns-clause-most g c =
 
 pub returns-clause-most_ok : goal.returns-clause-most_ok
 returns-clause-most_ok g c = c.loop-text.invariant.most
+
+pub returns-clause-accepted : goal.returns-clause-accepted
+returns-clause-accepted g c = c.loop-text.invariant.accepted

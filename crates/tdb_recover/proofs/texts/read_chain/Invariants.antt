@@ -1,8 +1,9 @@
-use Rattle.std.proofs.Common.{◌-◌, ◌≡◌, ◌+◌, ◌≤◌, length, reverse}
+use Rattle.std.proofs.Common.{◌-◌, ◌≡◌, ◌+◌, ◌≤◌, IsTrue, length, reverse}
 use Rattle.std.specs.List.{AllByRecursion}
 use Rattle.tdb_mark.specs.CommitFormat.{IsInFormat}
 use Rattle.tdb_overlay.specs.Reading.{OnlyReads}
 use Rattle.tdb_recover.specs.Chain.{EachLog, EndsWith, IsBehind, ReadsOnlyIn}
+use Rattle.tdb_recover.specs.FirstText.{HasFirstText}
 use Rattle.tdb_recover.specs.Reads.{ReadsAtMost}
 use Rattle.tdb_recover.proofs.texts.read_chain.Given as goal
 
@@ -12,6 +13,8 @@ invariant-loop-text g l = record {
   format : IsInFormat l.text;
   counts : (l.text.count ≤ l.count) × (l.count ≤ l.text.base + 1000);
   commits : AllByRecursion (IsBehind l.text) (reverse l.commits.items);
+  accepted : IsTrue (g.P.Platform.outside l.fn.platform).tells
+      → HasFirstText l.keys (l.count, l.mark.0) (g.P.Platform.outside l.fn.platform) (g.P.Platform.outside l.platform);
   ends : EachLog (g.P.Platform.outside l.fn.platform) (g.P.Platform.outside l.platform) l.keys (λ log. log.anchor ≡ (l.count, l.mark.0)
       → EndsWith (g.P.Platform.outside l.fn.platform).trace.written l.keys log.chain l.text (reverse l.commits.items));
   quiet : (g.P.Platform.outside l.platform).faults ≡ (g.P.Platform.outside l.fn.platform).faults;

@@ -6,6 +6,7 @@ use Rattle.tdb_recover.specs.Chain.{EndsWith}
 use Rattle.tdb_recover.specs.Explained.{IsExplained}
 use Rattle.tdb_recover.proofs.Answering.{if_err_and}
 use Rattle.tdb_recover.proofs.Ends.{is_text_of, newest, newest_ends, newest_opening, newest_counts}
+use Rattle.tdb_recover.proofs.FirstRead.{first_read}
 use Rattle.tdb_recover.proofs.Only.{only_as}
 use Rattle.tdb_recover.proofs.Showing.{explained_as}
 use Rattle.tdb_recover.proofs.texts.read_newest.Goals as goal
@@ -52,3 +53,9 @@ returns-then-text-le-COMMITS_PER_CHECKPOINT-clause-only g c t log given at =
     let last = newest old.trace.written new.trace c.args.keys.now log given c.args.count c.args.mark.now.0 at c.requires in
     only_as old new (λ p. p ≡ record { place = record { 0 = slot_place c.args.count }; length = 256; digest = c.args.mark.now }) (IsOpeningPiece old.trace.written log.store log.anchor)
     (λ piece same. newest_opening old.trace.written new.trace c.args.keys.now log given c.args.count c.args.mark.now piece c.requires last same) (c.in_ok-text.ensures.only t)
+
+pub returns-then-text-le-COMMITS_PER_CHECKPOINT-clause-accepted : goal.returns-then-text-le-COMMITS_PER_CHECKPOINT-clause-accepted
+returns-then-text-le-COMMITS_PER_CHECKPOINT-clause-accepted g c t =
+    let h = c.in_ok-text.ensures.accepted t in
+    first_read c.args.keys.now (c.args.count, c.args.mark.now.0) (g.P.Platform.outside c.args.platform.now)
+    (g.P.Platform.outside c.read_text.new.platform) h.0 c.in_ok-text.text h.1 h.2 h.3 c.if-text-count.true

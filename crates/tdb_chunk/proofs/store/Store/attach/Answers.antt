@@ -1,6 +1,7 @@
 use Rattle.std.proofs.Common.{List, ℕ, Err, inl, inr, ⊎_elim, ◌∙◌, ap, subst, sym}
 use Rattle.tdb_overlay.specs.Images.{IsReliableUnder}
 use Rattle.tdb_recover.specs.declared.error.OpenError.{OpenError}
+use Rattle.tdb_recover.specs.FirstText.{HasFirstText}
 use Rattle.tdb_recover.specs.Opening.{StaysOrTakes}
 use Rattle.tdb_chunk.proofs.Attaching.{attached, same_error, with_secret}
 use Rattle.tdb_chunk.proofs.store.Store.attach.Goals as goal
@@ -38,3 +39,9 @@ returns-in-Err-clause-reliable g c damage is store history from given reliable =
 pub returns-in-Err-clause-form : goal.returns-in-Err-clause-form
 returns-in-Err-clause-form g c place is store history from given =
     c.in-Err.ensures.form place (ap Err is) store history from (with_secret _ _ _ _ store history from c.new-keys.ensures given)
+
+pub returns-in-Ok-clause-accepted : goal.returns-in-Ok-clause-accepted
+returns-in-Ok-clause-accepted g c tells =
+    let o = g.P.Platform.outside c.args.platform in
+    subst (λ (k : List ℕ). HasFirstText k o.anchor o (g.P.Platform.outside c.recover.new.platform)) c.new-keys.ensures
+    (c.in-Ok.ensures.accepted tells)

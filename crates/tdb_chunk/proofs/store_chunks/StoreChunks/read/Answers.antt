@@ -1,5 +1,5 @@
-use Rattle.std.proofs.Common.{refl, sym, ◌∙◌}
-use Rattle.tdb_chunk.proofs.StoreReads.{as_seen, has_read, read_no_chunk, read_no_partition, read_stopped, with_secret}
+use Rattle.std.proofs.Common.{inl, inr, ⊎_elim, sym, ◌∙◌}
+use Rattle.tdb_chunk.proofs.StoreReads.{as_seen, has_read, read_no_chunk, read_no_partition, read_stopped, unhidden_as, with_secret}
 use Rattle.tdb_chunk.proofs.store_chunks.StoreChunks.read.Goals as goal
 
 pub returns-then-self : goal.returns-then-self
@@ -9,6 +9,7 @@ returns-then-self g c =
     record {
       read = as_seen outside crash_states c.args.part c.args.rank _ _ _ _ c.self.view_is c.self.view_is
           (read_stopped outside crash_states g.met.P.Platform.counts g.met.P.Platform.numbered _ c.args.part c.args.rank c.if-self.true);
+      unhidden = λ is. absurd (cc is);
     }
 
 pub returns-in_default : goal.returns-in_default
@@ -19,6 +20,7 @@ returns-in_default g c =
       read = as_seen outside crash_states c.args.part c.args.rank _ _ _ _ c.self.view_is c.self.view_is
           (read_no_partition outside crash_states g.met.P.Platform.counts g.met.P.Platform.numbered _ c.args.part c.args.rank c.if-self.false
           c.in_default.ensures);
+      unhidden = λ is. absurd (cc is);
     }
 
 pub returns-in_default-get : goal.returns-in_default-get
@@ -29,6 +31,7 @@ returns-in_default-get g c =
       read = as_seen outside crash_states c.args.part c.args.rank _ _ _ _ c.self.view_is c.self.view_is
           (read_no_chunk outside crash_states g.met.P.Platform.counts g.met.P.Platform.numbered _ c.args.part c.args.rank c.in-Some.leader
           c.if-self.false c.in-Some.ensures (λ piece here. c.in_default-get.not-Here piece (c.get.ensures ∙ here)));
+      unhidden = λ is. absurd (cc is);
     }
 
 pub returns : goal.returns
@@ -51,4 +54,7 @@ returns g c =
             quiet = e.quiet;
             late = e.late;
           }));
+      unhidden = unhidden_as outside _ _ _ _ c.args.part.0 c.args.rank.0 c.self.view_is
+          (with_secret c.read_chunk.new.platform was.chain.log was.stopped was.chain.keys c.read_chunk.new.keys (sym e.same))
+          (λ is tells. ⊎_elim (λ unread. inl unread) (λ shown. inr (c.in-Here.piece, sym c.in-Here.ensures, shown)) (e.memory is tells));
     }
