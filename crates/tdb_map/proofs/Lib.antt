@@ -1,6 +1,7 @@
 pub mod NumberLemmas
 pub mod ShownLemmas
 pub mod TreeLemmas
+pub mod WayLemmas
 pub mod WalkLemmas
 pub mod RewriteLemmas
 pub mod UpdateLaws

@@ -1,11 +1,11 @@
 -- Trees, step by step.
-use Rattle.std.proofs.Common.{◌≡◌, inl, inr, ℕ, zero, suc, ◌+◌, ◌*◌, ◌/◌, ◌^◌, ◌<◌, ◌≤◌, List, Option, None, Some, Result, Ok, Err, IfOk, IfErr, refl, sym, subst, ◌∙◌}
+use Rattle.std.proofs.Common.{◌≡◌, inl, inr, ℕ, zero, suc, ◌+◌, ◌*◌, ◌/◌, ◌^◌, ◌<◌, List, Option, None, Some, Result, Ok, Err, IfOk, IfErr, refl, sym, subst, ◌∙◌}
 use Rattle.tdb_base.specs.declared.piece.Piece.{Piece}
 use Rattle.tdb_node.specs.Node.{empty_node}
 use Rattle.tdb_node.proofs.NodeSpelling.{empty_node_at}
 use Rattle.tdb_map.specs.declared.tree.Tree.{Tree}
 use Rattle.tdb_map.specs.declared.pieces.PieceError.{PieceError}
-use Rattle.tdb_map.specs.Shown.{Shown}
+use Rattle.tdb_map.specs.Shown.{Shown, Shows}
 use Rattle.tdb_map.specs.PieceCause.{IsPieceCause}
 use Rattle.tdb_map.specs.Nodes.{Texts, Nodes, Grows, NodesGrow, nodes_of, IsUnfit}
 use Rattle.tdb_map.specs.Tree.{IsAt, IsOnWay, HasNode, digit, entry}
@@ -48,8 +48,8 @@ step_at nodes height below number rank root node leaf is has at =
     subst (λ (h : ℕ). IsAt nodes h number root rank leaf) (sym is) (node, has, at)
 
 -- the node of the root couldn't be had
-pub blocked_here : (old new : Shown) (misfits : Piece → List ℕ → Type 0) (nodes : Nodes) (tree : Tree) (wanted : ℕ → Type 0) (height below number rank : ℕ) (root : Option Piece) (piece : Piece) (error : PieceError)
-    → height ≡ suc below → root ≡ Some piece → wanted rank → rank / 64 ^ height ≡ number → IsPieceCause old new (IsUnfit misfits tree below number piece) piece error
+pub blocked_here : (old new : Shown) (misfits : Piece → Type 0) (nodes : Nodes) (tree : Tree) (wanted : ℕ → Type 0) (height below number rank : ℕ) (root : Option Piece) (piece : Piece) (error : PieceError)
+    → height ≡ suc below → root ≡ Some piece → wanted rank → rank / 64 ^ height ≡ number → IsPieceCause old new (misfits piece) (IsUnfit tree below number) piece error
     → IsBlocked old new misfits nodes tree wanted height number root error
 blocked_here old new misfits nodes tree wanted height below number rank root piece error is root_is is_wanted within cause =
     let within_below : rank / 64 ^ suc below ≡ number = subst (λ (h : ℕ). rank / 64 ^ h ≡ number) is within in
@@ -60,14 +60,14 @@ blocked_here old new misfits nodes tree wanted height below number rank root pie
       level = below;
       piece = piece;
       on_way = subst (λ (h : ℕ). IsOnWay nodes h number root rank below piece) (sym is) (inl (root_is, refl));
-      cause = subst (λ (n : ℕ). IsPieceCause old new (IsUnfit misfits tree below n piece) piece error) (sym within_below) cause;
+      cause = subst (λ (n : ℕ). IsPieceCause old new (misfits piece) (IsUnfit tree below n) piece error) (sym within_below) cause;
     }
 
 -- a node below an entry couldn't be had
-pub blocked_below : (first old new : Shown) (misfits : Piece → List ℕ → Type 0) (nodes : Nodes) (tree : Tree) (wanted : ℕ → Type 0) (height below number d : ℕ) (root : Option Piece) (node : List (Option Piece)) (error : PieceError)
-    → height ≡ suc below → d < 64 → first.faults ≤ old.faults → HasNode nodes below number root node
+pub blocked_below : (first old new : Shown) (most : ℕ) (misfits : Piece → Type 0) (nodes : Nodes) (tree : Tree) (wanted : ℕ → Type 0) (height below number d : ℕ) (root : Option Piece) (node : List (Option Piece)) (error : PieceError)
+    → height ≡ suc below → d < 64 → Shows first old most → HasNode nodes below number root node
     → IsBlocked old new misfits nodes tree wanted below (number * 64 + d) (entry node d) error → IsBlocked first new misfits nodes tree wanted height number root error
-blocked_below first old new misfits nodes tree wanted height below number d root node error is small no_fewer has b =
+blocked_below first old new most misfits nodes tree wanted height below number d root node error is small no_fewer has b =
     let at_d : digit below b.rank ≡ d = last_digit (b.rank / 64 ^ below) number d small b.within in
     let within : b.rank / 64 ^ suc below ≡ number = number_above b.rank below ∙ number_up (b.rank / 64 ^ below) number d small b.within in
     record {
@@ -78,5 +78,5 @@ blocked_below first old new misfits nodes tree wanted height below number d root
       piece = b.piece;
       on_way = subst (λ (h : ℕ). IsOnWay nodes h number root b.rank b.level b.piece) (sym is)
           (inr (node, has, subst (λ (k : ℕ). IsOnWay nodes below (number * 64 + k) (entry node k) b.rank b.level b.piece) (sym at_d) b.on_way));
-      cause = cause_earlier first old new (IsUnfit misfits tree b.level (b.rank / 64 ^ suc b.level) b.piece) b.piece error no_fewer b.cause;
+      cause = cause_earlier first old new most (misfits b.piece) (IsUnfit tree b.level (b.rank / 64 ^ suc b.level)) b.piece error no_fewer b.cause;
     }

@@ -175,3 +175,35 @@ whole_walk nodes height root old new none h =
       subst (λ (w : ℕ). Ascends 0 w new) (let e : (0 + 1) * 64 ^ height ≡ 64 ^ height = omega arith in e) (subst (λ (low : ℕ). Ascends low ((0 + 1) * 64 ^ height) new) (let z : 0 * 64 ^ height ≡ 0 = omega arith in z)
           (subst (λ (es : Listed). Ascends (0 * 64 ^ height) ((0 + 1) * 64 ^ height) es) is h.walk.ascends)),
     )
+
+high_digit : (rank : ℕ) → 4096 ≤ rank → rank < 262144 → (1 ≤ rank / 4096 % 64) × (rank / 4096 % 64 < 64)
+high_digit rank low high = (omega (arith, low, high), omega arith)
+
+low_digit : (rank : ℕ) → rank < 4096 → rank / 4096 % 64 ≡ 0
+low_digit rank low = omega (arith, low)
+
+narrow_rank : (nodes : Nodes) (root : Option Piece) (node : List (Option Piece)) (new : Listed) → HasNode nodes 2 0 root node
+    → ((k : ℕ) → 1 ≤ k → k < 64 → entry node k ≡ None) → ((rank : ℕ) → rank < 4096 → IsAt nodes 2 0 (entry node 0) rank (listed new rank)) → Ascends 0 4096 new
+    → (rank : ℕ) → rank < 262144 → (test : Bool) → nat_lt rank 4096 ≡ test → IsAt nodes 3 0 root rank (listed new rank)
+narrow_rank nodes root node new has none at ascends rank fits true is =
+    let less : rank < 4096 = is_less rank 4096 is in (
+      node,
+      has,
+      subst (λ (d : ℕ). IsAt nodes 2 (0 * 64 + d) (entry node d) rank (listed new rank)) (sym (low_digit rank less)) (at rank less),
+    )
+narrow_rank nodes root node new has none at ascends rank fits false is =
+    let more : 4096 ≤ rank = is_more rank 4096 is in
+    let d = high_digit rank more fits in (
+      node,
+      has,
+      subst (λ (leaf : Option Piece). IsAt nodes 2 (0 * 64 + digit 2 rank) (entry node (digit 2 rank)) rank leaf) (sym (listed_behind 0 4096 rank new ascends more))
+          (subst (λ (child : Option Piece). IsAt nodes 2 (0 * 64 + digit 2 rank) child rank None) (sym (none (digit 2 rank) d.0 d.1)) (none_at nodes 2 (0 * 64 + digit 2 rank) rank)),
+    )
+
+-- the walk of a tree whose root has no entry beyond the first one
+pub narrow_walk : (nodes : Nodes) (root : Option Piece) (node : List (Option Piece)) (old new : Listed) → old ≡ [] → HasNode nodes 2 0 root node
+    → ((k : ℕ) → 1 ≤ k → k < 64 → entry node k ≡ None) → HasWalked nodes 2 0 (entry node 0) old new
+    → ((rank : ℕ) → rank < 262144 → IsAt nodes 3 0 root rank (listed new rank)) × Ascends 0 4096 new
+narrow_walk nodes root node old new none has beyond walked =
+    let first = whole_walk nodes 2 (entry node 0) old new none walked in
+    (λ rank fits. narrow_rank nodes root node new has beyond first.0 first.1 rank fits (nat_lt rank 4096) refl, first.1)

@@ -1,5 +1,5 @@
 -- What the pieces of a tree's nodes stand for.
-use Rattle.std.specs.Prelude.{◌≡◌, ℕ, suc, ◌+◌, ◌*◌, ◌^◌, ◌⊎◌, List, Option}
+use Rattle.std.specs.Prelude.{◌≡◌, ℕ, suc, ◌+◌, ◌*◌, ◌^◌, List, Option}
 use Rattle.tdb_base.specs.declared.piece.Piece.{Piece}
 use Rattle.tdb_node.specs.Node.{IsNode}
 use Rattle.tdb_seal.specs.declared.record.Name.{Name}
@@ -35,10 +35,9 @@ pub record IsNodeRecord (tree : Tree) (level number : ℕ) (node : List (Option 
 abbrev pub nodes_of : Texts → Tree → Nodes
 nodes_of texts tree level number piece node = (bytes : List ℕ) × texts piece.digest.0 bytes × IsNodeRecord tree level number node bytes
 
--- bytes that are no node's record, or whose piece doesn't fit the others
-abbrev pub IsUnfit : (Piece → List ℕ → Type 0) → Tree → ℕ → ℕ → Piece → List ℕ → Type 0
-IsUnfit misfits tree level number piece bytes = misfits piece bytes
-    ⊎ ((node : List (Option Piece)) → IsNodeRecord tree level number node bytes → ⊥)
+-- bytes that are no node's record
+abbrev pub IsUnfit : Tree → ℕ → ℕ → List ℕ → Type 0
+IsUnfit tree level number bytes = (node : List (Option Piece)) → IsNodeRecord tree level number node bytes → ⊥
 
 -- a digest leads to one text
 pub record IsOneText (texts : Texts) : Type 0 where

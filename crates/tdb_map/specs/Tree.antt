@@ -44,6 +44,14 @@ IsOnWay nodes (suc height) number root rank level piece =
     ((root ≡ Some piece) × (level ≡ height)) ⊎ ((node : List (Option Piece)) × HasNode nodes height number root node
     × IsOnWay nodes height (number * 64 + digit height rank) (entry node (digit height rank)) rank level piece)
 
+-- The piece names a node on the way to a rank that is wanted, in the tree of a height with a number.
+pub record IsOnWayTo (nodes : Nodes) (wanted : ℕ → Type 0) (height number : ℕ) (root : Option Piece) (piece : Piece) : Type 0 where
+  pub rank : ℕ
+  pub is_wanted : wanted rank
+  pub within : rank / 64 ^ height ≡ number
+  pub level : ℕ
+  pub on_way : IsOnWay nodes height number root rank level piece
+
 -- how many nodes a tree of a height has at most
 abbrev pub node_count : ℕ → ℕ
 node_count zero = 0

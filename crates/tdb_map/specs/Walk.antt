@@ -1,10 +1,12 @@
 -- The entries of a whole tree, in order.
-use Rattle.std.specs.Prelude.{◌≡◌, ℕ, ◌+◌, ◌*◌, ◌/◌, ◌^◌, ◌≤◌, ◌<◌, nat_eq, List, [], ◌∷◌, ◌++◌, Option}
+use Rattle.std.specs.Prelude.{◌≡◌, ℕ, ◌+◌, ◌*◌, ◌/◌, ◌^◌, ◌≤◌, ◌<◌, nat_eq, List, [], ◌∷◌, ◌++◌, Option, Some}
 use Rattle.std.specs.Map.{lookup}
 use Rattle.tdb_base.specs.declared.names.Rank.{Rank}
 use Rattle.tdb_base.specs.declared.piece.Piece.{Piece}
 use Rattle.tdb_map.specs.Nodes.{Nodes}
-use Rattle.tdb_map.specs.Tree.{IsAt, digit, entry}
+use Rattle.tdb_map.specs.Tree.{HasNode, IsAt, digit, entry}
+use Rattle.tdb_map.specs.declared.pieces.PieceError.{PieceError}
+use Rattle.tdb_map.specs.declared.pieces.PieceError.TheVariants.{Form}
 
 abbrev pub Listed : Type 0
 Listed = List (Rank × Piece)
@@ -37,3 +39,13 @@ pub record HasWalkedSome (nodes : Nodes) (height from to : ℕ) (node : List (Op
   pub ascends : Ascends (from * 64 ^ height) (to * 64 ^ height) entries
   pub at : (rank : ℕ) → from ≤ rank / 64 ^ height → rank / 64 ^ height < to
       → IsAt nodes height (rank / 64 ^ height) (entry node (digit height rank)) rank (listed entries rank)
+
+-- The root has another entry than the first one, at that place: a rank of 4,096 or more.
+pub record IsTooWide (nodes : Nodes) (root : Option Piece) (error : PieceError) : Type 0 where
+  pub node : List (Option Piece)
+  pub is_node : HasNode nodes 2 0 root node
+  pub digit : ℕ
+  pub beyond : 1 ≤ digit
+  pub piece : Piece
+  pub is_there : entry node digit ≡ Some piece
+  pub refused : error ≡ Form piece.place

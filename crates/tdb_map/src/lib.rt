@@ -21,4 +21,4 @@ pub use looking::lookup;
 pub use pieces::{PieceError, Pieces};
 pub use tree::{MAP_HEIGHT, Tree};
 pub use updating::update;
-pub use walking::walk;
+pub use walking::{walk, walk_narrow};

@@ -1,8 +1,10 @@
 //! What a tree has at a rank.
-ghost use Rattle.std.specs.Prelude.{◌+◌, ◌*◌, ◌/◌, ◌≡◌, ◌≤◌, ◌<◌, ◌^◌, ℕ, IfOk, IfErr};
-ghost use Rattle.tdb_map.specs.Shown.{Shows};
+ghost use Rattle.std.specs.Prelude.{◌+◌, ◌*◌, ◌/◌, ◌≡◌, ◌≤◌, ◌<◌, ◌^◌, ℕ, IfOk, IfErr, Err};
+ghost use Rattle.tdb_map.specs.PieceCause.{IsUndamaged};
+ghost use Rattle.tdb_map.specs.declared.pieces.PieceError.TheVariants.{Fault};
+ghost use Rattle.tdb_map.specs.Shown.{AsksOneOf, EachShown, Shows, ShowsOneOf};
 ghost use Rattle.tdb_map.specs.Nodes.{Grows, nodes_of};
-ghost use Rattle.tdb_map.specs.Tree.{IsAt, HasAt};
+ghost use Rattle.tdb_map.specs.Tree.{HasAt, IsAt, IsOnWayTo};
 ghost use Rattle.tdb_map.specs.TreeCause.{IsTreeCause};
 
 use crate::nodes::fetch_node;
@@ -27,6 +29,11 @@ fn leaf_below<P: Pieces>(
     ensures at { IfOk result (λ leaf. IsAt (nodes_of (P.texts pieces.new) tree.now) height number root rank leaf) }
     ensures cause { IfErr result (IsTreeCause (P.shown pieces.old) (P.shown pieces.new) (P.misfits pieces.new)
         (nodes_of (P.texts pieces.new) tree.now) tree.now (λ r. r ≡ rank) height number root) }
+    ensures asks { EachShown (P.shown pieces.old) (P.shown pieces.new)
+        (AsksOneOf (IsOnWayTo (nodes_of (P.texts pieces.new) tree.now) (λ r. r ≡ rank) height number root)) }
+    ensures undamaged { IsUndamaged result → EachShown (P.shown pieces.old) (P.shown pieces.new)
+        (ShowsOneOf (IsOnWayTo (nodes_of (P.texts pieces.new) tree.now) (λ r. r ≡ rank) height number root)) }
+    ensures quiet { (result ≡ Err Fault → ⊥) → (P.shown pieces.new).faults ≡ (P.shown pieces.old).faults }
     ensures goes { P.goes pieces.old pieces.new }
     ensures grows { Grows (P.texts pieces.old) (P.texts pieces.new) }
     ensures shows { Shows (P.shown pieces.old) (P.shown pieces.new) height }
@@ -54,6 +61,11 @@ pub fn lookup<P: Pieces>(
     ensures at { IfOk result (λ leaf. HasAt (nodes_of (P.texts pieces.new) tree.now) MAP_HEIGHT tree.now.root rank.0 leaf) }
     ensures cause { IfErr result (IsTreeCause (P.shown pieces.old) (P.shown pieces.new) (P.misfits pieces.new)
         (nodes_of (P.texts pieces.new) tree.now) tree.now (λ r. r ≡ rank.0) MAP_HEIGHT 0 tree.now.root) }
+    ensures asks { EachShown (P.shown pieces.old) (P.shown pieces.new)
+        (AsksOneOf (IsOnWayTo (nodes_of (P.texts pieces.new) tree.now) (λ r. r ≡ rank.0) MAP_HEIGHT 0 tree.now.root)) }
+    ensures undamaged { IsUndamaged result → EachShown (P.shown pieces.old) (P.shown pieces.new)
+        (ShowsOneOf (IsOnWayTo (nodes_of (P.texts pieces.new) tree.now) (λ r. r ≡ rank.0) MAP_HEIGHT 0 tree.now.root)) }
+    ensures quiet { (result ≡ Err Fault → ⊥) → (P.shown pieces.new).faults ≡ (P.shown pieces.old).faults }
     ensures goes { P.goes pieces.old pieces.new }
     ensures grows { Grows (P.texts pieces.old) (P.texts pieces.new) }
     ensures shows { Shows (P.shown pieces.old) (P.shown pieces.new) MAP_HEIGHT }

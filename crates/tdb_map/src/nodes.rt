@@ -1,11 +1,11 @@
 //! Nodes, as they are fetched.
-ghost use Rattle.std.specs.Prelude.{◌+◌, ◌*◌, ◌^◌, ◌≤◌, ◌≡◌, ◌⊎◌, suc, ℕ, List, Option, Some, IfOk, IfErr, length, get_or};
+ghost use Rattle.std.specs.Prelude.{◌+◌, ◌*◌, ◌^◌, ◌≤◌, ◌≡◌, ◌⊎◌, suc, ℕ, List, Option, Some, IfOk, IfErr, length, get_or, Err};
 ghost use Rattle.tdb_base.specs.declared.piece.Piece.{Piece as APiece};
 ghost use Rattle.tdb_node.specs.Node.{IsEntry};
 ghost use Rattle.tdb_node.specs.declared.error.NodeError.TheVariants as node_error;
-ghost use Rattle.tdb_map.specs.declared.pieces.PieceError.TheVariants.{Memory};
-ghost use Rattle.tdb_map.specs.Shown.{Shows};
-ghost use Rattle.tdb_map.specs.PieceCause.{IsPieceCause};
+ghost use Rattle.tdb_map.specs.declared.pieces.PieceError.TheVariants.{Fault, Memory};
+ghost use Rattle.tdb_map.specs.Shown.{AsksOneOf, EachShown, Shows, ShowsOneOf};
+ghost use Rattle.tdb_map.specs.PieceCause.{IsPieceCause, IsUndamaged};
 ghost use Rattle.tdb_map.specs.Nodes.{Grows, IsNodeRecord, IsUnfit, nodes_of};
 ghost use Rattle.tdb_map.specs.Tree.{HasNode, entry};
 
@@ -51,7 +51,10 @@ pub(crate) fn fetch_node<P: Pieces>(
     ensures count { IfOk result (λ node. length node.value.entries ≡ 64) }
     ensures each { IfOk result (λ node. (k : ℕ) → IsEntry (entry node.value.entries k)) }
     ensures cause { IfErr result (IsPieceCause (P.shown pieces.old) (P.shown pieces.new)
-        (IsUnfit (P.misfits pieces.new) tree.now level number piece.now) piece.now) }
+        (P.misfits pieces.new piece.now) (IsUnfit tree.now level number) piece.now) }
+    ensures asks { EachShown (P.shown pieces.old) (P.shown pieces.new) (AsksOneOf (λ p. p ≡ piece.now)) }
+    ensures undamaged { IsUndamaged result → EachShown (P.shown pieces.old) (P.shown pieces.new) (ShowsOneOf (λ p. p ≡ piece.now)) }
+    ensures quiet { (result ≡ Err Fault → ⊥) → (P.shown pieces.new).faults ≡ (P.shown pieces.old).faults }
     ensures goes { P.goes pieces.old pieces.new }
     ensures grows { Grows (P.texts pieces.old) (P.texts pieces.new) }
     ensures shows { Shows (P.shown pieces.old) (P.shown pieces.new) 1 }
@@ -80,7 +83,10 @@ pub(crate) fn node_of<P: Pieces>(
     ensures each { IfOk result (λ node. (k : ℕ) → IsEntry (entry node.value.entries k)) }
     ensures cause { IfErr result (λ error. (error ≡ Memory) ⊎ ((piece : APiece) × (root ≡ Some piece)
         × IsPieceCause (P.shown pieces.old) (P.shown pieces.new)
-        (IsUnfit (P.misfits pieces.new) tree.now level number piece) piece error)) }
+        (P.misfits pieces.new piece) (IsUnfit tree.now level number) piece error)) }
+    ensures asks { EachShown (P.shown pieces.old) (P.shown pieces.new) (AsksOneOf (λ p. root ≡ Some p)) }
+    ensures undamaged { IsUndamaged result → EachShown (P.shown pieces.old) (P.shown pieces.new) (ShowsOneOf (λ p. root ≡ Some p)) }
+    ensures quiet { (result ≡ Err Fault → ⊥) → (P.shown pieces.new).faults ≡ (P.shown pieces.old).faults }
     ensures goes { P.goes pieces.old pieces.new }
     ensures grows { Grows (P.texts pieces.old) (P.texts pieces.new) }
     ensures shows { Shows (P.shown pieces.old) (P.shown pieces.new) 1 }

@@ -1,9 +1,9 @@
 //! What fetches pieces, and why one wasn't had.
-ghost use Rattle.std.specs.Prelude.{◌≡◌, List, ℕ, IfOk, IfErr, IsTrue};
+ghost use Rattle.std.specs.Prelude.{◌≡◌, List, ℕ, Err, IfOk, IfErr, IsTrue};
 ghost use Rattle.sha2.specs.Sha256.{sha256};
-ghost use Rattle.tdb_map.specs.declared.pieces.PieceError.TheVariants.{Memory};
-ghost use Rattle.tdb_map.specs.Shown.{Shown, Shows, IsShownLast};
-ghost use Rattle.tdb_map.specs.PieceCause.{IsPieceCause};
+ghost use Rattle.tdb_map.specs.declared.pieces.PieceError.TheVariants.{Fault, Memory};
+ghost use Rattle.tdb_map.specs.Shown.{AsksOneOf, EachShown, IsShownLast, Shown, Shows, ShowsOneOf};
+ghost use Rattle.tdb_map.specs.PieceCause.{IsPieceCause, IsUndamaged};
 ghost use Rattle.tdb_map.specs.Nodes.{Texts, Grows};
 
 use std::alloc::{AllocError, AllocFailed, Global};
@@ -56,15 +56,19 @@ pub trait Pieces {
     /// One value of it came of another by fetching alone.
     ghost goes: { Self → Self → Type 0 };
 
-    /// Whether a piece with this text doesn't fit the other pieces.
-    ghost misfits: { Self → APiece → List ℕ → Type 0 };
+    /// Whether a piece doesn't fit the other pieces, and isn't read.
+    ghost misfits: { Self → APiece → Type 0 };
 
-    /// Reads a piece, asking for its whole length, and checks its digest.
+    /// Reads a piece, asking for its whole length, and checks its digest. One that doesn't fit the others is refused before.
     fn fetch(&mut self, alloc: Global, piece: &Piece) -> Result<Vec<u8>, PieceError>
         ensures text { IfOk result (λ bytes. texts self.new piece.now.digest.0 bytes.items) }
         ensures digest { IfOk result (λ bytes. sha256 bytes.items ≡ piece.now.digest.0) }
-        ensures last { IfOk result (λ bytes. IsTrue (shown self.new).tells → IsShownLast (shown self.new) piece.now bytes.items) }
-        ensures cause { IfErr result (IsPieceCause (shown self.old) (shown self.new) (misfits self.new piece.now) piece.now) }
+        ensures last { IfOk result
+            (λ bytes. IsTrue (shown self.old).tells → IsShownLast (shown self.old) (shown self.new) piece.now bytes.items) }
+        ensures cause { IfErr result (IsPieceCause (shown self.old) (shown self.new) (misfits self.new piece.now) (λ _. ⊥) piece.now) }
+        ensures asks { EachShown (shown self.old) (shown self.new) (AsksOneOf (λ p. p ≡ piece.now)) }
+        ensures undamaged { IsUndamaged result → EachShown (shown self.old) (shown self.new) (ShowsOneOf (λ p. p ≡ piece.now)) }
+        ensures quiet { (result ≡ Err Fault → ⊥) → (shown self.new).faults ≡ (shown self.old).faults }
         ensures goes { goes self.old self.new }
         ensures grows { Grows (texts self.old) (texts self.new) }
         ensures shows { Shows (shown self.old) (shown self.new) 1 };

@@ -1,8 +1,9 @@
 //! Edits of a tree.
 ghost use Rattle.std.specs.Prelude.{◌≡◌, ◌+◌, ◌*◌, ◌^◌, ◌<◌, ◌≤◌, suc, None, ℕ, IfOk, IfErr, length};
 ghost use Rattle.tdb_node.specs.Node.{IsEntry};
-ghost use Rattle.tdb_map.specs.Shown.{Shows};
+ghost use Rattle.tdb_map.specs.Shown.{AsksOneOf, EachShown, Shows};
 ghost use Rattle.tdb_map.specs.Nodes.{Grows, IsOneText, nodes_of};
+ghost use Rattle.tdb_map.specs.Tree.{IsOnWayTo};
 ghost use Rattle.tdb_map.specs.TreeCause.{IsTreeCause};
 ghost use Rattle.tdb_map.specs.Edits.{HasEdit, edit_at, edits_in};
 ghost use Rattle.tdb_map.specs.Laid.{IsEditedNode, Lays, LaysNodes, laid_nodes, node_record_length, with_laid};
@@ -38,6 +39,8 @@ fn rewrite<P: Pieces, L: Layer>(
     ensures cause { IfErr result (IsUpdateCause (IsFull (L.space layer.new) (node_record_length tree.now))
         (IsTreeCause (P.shown pieces.old) (P.shown pieces.new) (P.misfits pieces.new)
         (nodes_of (P.texts pieces.new) tree.now) tree.now (λ rank. edit_at edits.now.entries rank ≡ None → ⊥) height number root)) }
+    ensures asks { EachShown (P.shown pieces.old) (P.shown pieces.new) (AsksOneOf (IsOnWayTo (nodes_of (P.texts pieces.new) tree.now)
+        (λ rank. edit_at edits.now.entries rank ≡ None → ⊥) height number root)) }
     ensures goes { P.goes pieces.old pieces.new }
     ensures grows { Grows (P.texts pieces.old) (P.texts pieces.new) }
     ensures lays { Lays (L.laid layer.old) (L.laid layer.new) (height * edits_in height number (number + 1) edits.now.entries) }
@@ -109,6 +112,8 @@ pub fn update<P: Pieces, L: Layer>(
         (IsTreeCause (P.shown pieces.old) (P.shown pieces.new) (P.misfits pieces.new)
         (nodes_of (P.texts pieces.new) tree.now) tree.now (λ rank. edit_at edits.now.entries rank ≡ None → ⊥)
         MAP_HEIGHT 0 tree.now.root)) }
+    ensures asks { EachShown (P.shown pieces.old) (P.shown pieces.new) (AsksOneOf (IsOnWayTo (nodes_of (P.texts pieces.new) tree.now)
+        (λ rank. edit_at edits.now.entries rank ≡ None → ⊥) MAP_HEIGHT 0 tree.now.root)) }
     ensures goes { P.goes pieces.old pieces.new }
     ensures grows { Grows (P.texts pieces.old) (P.texts pieces.new) }
 {

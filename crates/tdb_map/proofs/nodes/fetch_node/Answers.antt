@@ -5,9 +5,11 @@ use Rattle.tdb_map.proofs.nodes.fetch_node.Goals as goal
 
 pub returns-in-Err-Form-clause-cause : goal.returns-in-Err-Form-clause-cause
 returns-in-Err-Form-clause-cause g c = (
-  c.in_ok-bytes.bytes.items,
   refl,
-  c.in_ok-bytes.ensures.digest,
-  inr (subst (λ (bytes : List ℕ). (node : List (Option Piece)) → IsNodeRecord c.args.tree.now c.args.level c.args.number node bytes → ⊥) c.deref.ensures.value (c.open_node.ensures.form (rw c.in-Err-Form.field-0-is at c.in-Err-Form.is))),
-  c.in_ok-bytes.ensures.last,
+  inr (
+    c.in_ok-bytes.bytes.items,
+    c.in_ok-bytes.ensures.digest,
+    subst (λ (bytes : List ℕ). (node : List (Option Piece)) → IsNodeRecord c.args.tree.now c.args.level c.args.number node bytes → ⊥) c.deref.ensures.value (c.open_node.ensures.form (rw c.in-Err-Form.field-0-is at c.in-Err-Form.is)),
+    c.in_ok-bytes.ensures.last,
+  ),
 )

@@ -12,6 +12,7 @@ use Rattle.tdb_map.specs.Rewritten.{Rewritten}
 use Rattle.tdb_map.specs.UpdateCause.{IsFull}
 use Rattle.tdb_map.proofs.NumberLemmas.{above_is, child_fits, number_fits, none_of}
 use Rattle.tdb_map.proofs.TreeLemmas.{if_ok_then, if_err_then, grows_then, nodes_grow, has_node_later, blocked_here, blocked_below}
+use Rattle.tdb_map.proofs.WayLemmas.{asks_root, asks_below}
 use Rattle.tdb_map.proofs.CauseLemmas.{cause_of, cause_more, some_edit}
 use Rattle.tdb_map.proofs.RewriteLemmas.{nodes_same, laid_earlier, laid_later, lays_none, lays_child, lays_within, lays_node, shows_child, shows_within, shows_one, becomes_later, rewritten_later, rewritten_same, rewritten_node, shows_first, each_set}
 use Rattle.tdb_map.proofs.LaidLemmas.{IsBelow, nodes_child, nodes_node, records_none}
@@ -40,6 +41,13 @@ returns-in_err-kept-clause-cause g t c =
           c.args.height (c.args.height - 1) c.args.number some.0 c.args.root h.0 c.in_err-kept.field-0.0 (above_is c.args.height c.if-height-eq0.false) h.1 some.2 some.1 h.2)
     ]))
 
+pub returns-in_err-kept-clause-asks : goal.returns-in_err-kept-clause-asks
+returns-in_err-kept-clause-asks g t c =
+    let new = c.node_of.new.pieces in
+    let some = some_edit c.args.height c.args.number c.args.edits.now.entries (c.has_edits.ensures.0 c.if-not-has_edits.false) in
+    asks_root (g.P.Pieces.shown c.args.pieces.now) (g.P.Pieces.shown new) (nodes_of (g.P.Pieces.texts new) c.args.tree.now) (λ (r : ℕ). edit_at c.args.edits.now.entries r ≡ None → ⊥)
+    c.args.height (c.args.height - 1) c.args.number some.0 c.args.root (above_is c.args.height c.if-height-eq0.false) some.2 some.1 c.node_of.ensures.asks
+
 pub returns-in_err-kept-clause-shows : goal.returns-in_err-kept-clause-shows
 returns-in_err-kept-clause-shows g t c = shows_one _ _ _ _ c.if-height-eq0.false (c.has_edits.ensures.0 c.if-not-has_edits.false) c.node_of.ensures.shows
 
@@ -55,12 +63,16 @@ returns-in_err-kept-clause-lays_nodes g t c = records_none _ (g.L.Layer.laid c.a
 pub loop-digit-init : goal.loop-digit-init
 loop-digit-init g t c =
     let nodes = nodes_of (g.P.Pieces.texts c.node_of.new.pieces) c.args.tree.now in
+    let new = c.node_of.new.pieces in
+    let some = some_edit c.args.height c.args.number c.args.edits.now.entries (c.has_edits.ensures.0 c.if-not-has_edits.false) in
     let is = sym c.deref.ensures in
     record {
       goes = c.node_of.ensures.goes;
       grows = c.node_of.ensures.grows;
       node = subst (λ (n : Node). HasNode nodes (c.args.height - 1) c.args.number c.args.root n.entries) is c.in_ok-kept.ensures.node;
       shows = shows_first _ _ c.args.edits.now.entries (c.args.height - 1) c.args.number c.node_of.ensures.shows;
+      asks = asks_root (g.P.Pieces.shown c.args.pieces.now) (g.P.Pieces.shown new) (nodes_of (g.P.Pieces.texts new) c.args.tree.now) (λ (r : ℕ). edit_at c.args.edits.now.entries r ≡ None → ⊥)
+          c.args.height (c.args.height - 1) c.args.number some.0 c.args.root (above_is c.args.height c.if-height-eq0.false) some.2 some.1 c.node_of.ensures.asks;
       length = subst (λ (n : Node). length n.entries ≡ 64) is c.in_ok-kept.ensures.count;
       each_before = subst (λ (n : Node). (k : ℕ) → IsEntry (entry n.entries k)) is c.in_ok-kept.ensures.each;
       each = subst (λ (n : Node). (k : ℕ) → IsEntry (entry n.entries k)) is c.in_ok-kept.ensures.each;
@@ -135,9 +147,20 @@ returns-in_err-after-clause-cause g t c =
     let whole = IsTreeCause (shown c.args.pieces.now) (shown new) (g.P.Pieces.misfits new) nodes tree wanted c.args.height c.args.number c.args.root in
     rw (p.1, p.2) (cause_more (IsFull (g.L.Layer.space c.rewrite.new.layer) (node_record_length c.args.tree.now)) child whole (λ error cause. elim cause [
       | inl memory ↦ inl memory
-      | inr blocked ↦ inr (blocked_below (shown c.args.pieces.now) (shown mid) (shown new) (g.P.Pieces.misfits new) nodes tree wanted
-          c.args.height below c.args.number c.loop-digit.digit c.args.root before error (above_is c.args.height c.if-height-eq0.false) c.loop-digit-test.true c.loop-digit.invariant.shows.faults has blocked)
+      | inr blocked ↦ inr (blocked_below (shown c.args.pieces.now) (shown mid) (shown new) _ (g.P.Pieces.misfits new) nodes tree wanted
+          c.args.height below c.args.number c.loop-digit.digit c.args.root before error (above_is c.args.height c.if-height-eq0.false) c.loop-digit-test.true c.loop-digit.invariant.shows has blocked)
     ]) c.in_err-after.field-0.0 c.in_err-after.ensures.cause)
+
+pub returns-in_err-after-clause-asks : goal.returns-in_err-after-clause-asks
+returns-in_err-after-clause-asks g t c =
+    let texts = g.P.Pieces.texts in
+    let shown = g.P.Pieces.shown in
+    let tree = c.args.tree.now in
+    let later = nodes_grow (texts c.loop-digit.pieces) (texts c.rewrite.new.pieces) tree c.rewrite.ensures.grows in
+    let has = has_node_later (nodes_of (texts c.loop-digit.pieces) tree) (nodes_of (texts c.rewrite.new.pieces) tree) later (c.args.height - 1) c.args.number c.args.root c.deref.result.now.entries c.loop-digit.invariant.node in
+    asks_below (shown c.args.pieces.now) (shown c.loop-digit.pieces) (shown c.rewrite.new.pieces) (nodes_of (texts c.loop-digit.pieces) tree) (nodes_of (texts c.rewrite.new.pieces) tree)
+    (λ (r : ℕ). edit_at c.args.edits.now.entries r ≡ None → ⊥) c.args.height (c.args.height - 1) c.args.number c.loop-digit.digit c.args.root c.deref.result.now.entries
+    c.loop-digit.invariant.shows.tells later (above_is c.args.height c.if-height-eq0.false) c.loop-digit-test.true has c.loop-digit.invariant.asks c.rewrite.ensures.asks
 
 pub loop-digit-preserved : goal.loop-digit-preserved
 loop-digit-preserved g t c =
@@ -158,13 +181,17 @@ loop-digit-preserved g t c =
     let after = c.loop-digit.after.entries in
     let digit = c.loop-digit.digit in
     let made = c.in_ok-after.field-0 in
+    let has = has_node_later nodes_mid nodes_new later below c.args.number c.args.root before c.loop-digit.invariant.node in
     let inside : digit < length after = omega (arith, c.loop-digit.invariant.length, c.loop-digit-test.true) in
     let RewrittenAt = (λ (d : ℕ) (root : Option Piece). Rewritten nodes_new (laid_nodes tree (laid old) (laid new)) edits below (c.args.number * 64 + d) (entry before d) root) in
     record {
       goes = g.met.P.Pieces.goes_on c.args.pieces.now c.loop-digit.pieces c.rewrite.new.pieces c.loop-digit.invariant.goes c.rewrite.ensures.goes;
       grows = grows_then (texts c.args.pieces.now) (texts c.loop-digit.pieces) (texts c.rewrite.new.pieces) c.loop-digit.invariant.grows c.rewrite.ensures.grows;
-      node = has_node_later nodes_mid nodes_new later below c.args.number c.args.root before c.loop-digit.invariant.node;
+      node = has;
       shows = shows_child (shown c.args.pieces.now) (shown c.loop-digit.pieces) (shown c.rewrite.new.pieces) edits below c.args.number digit c.loop-digit.invariant.shows c.rewrite.ensures.shows;
+      asks = asks_below (shown c.args.pieces.now) (shown c.loop-digit.pieces) (shown c.rewrite.new.pieces) (nodes_of (texts c.loop-digit.pieces) tree) (nodes_of (texts c.rewrite.new.pieces) tree)
+          (λ (r : ℕ). edit_at c.args.edits.now.entries r ≡ None → ⊥) c.args.height (c.args.height - 1) c.args.number c.loop-digit.digit c.args.root c.deref.result.now.entries
+          c.loop-digit.invariant.shows.tells later (above_is c.args.height c.if-height-eq0.false) c.loop-digit-test.true has c.loop-digit.invariant.asks c.rewrite.ensures.asks;
       length = simp length-set c.loop-digit.invariant.length;
       each_before = c.loop-digit.invariant.each_before;
       each = each_set IsEntry after digit made inside c.loop-digit.invariant.each (c.in_ok-after.ensures.lies (c.loop-digit.invariant.each_before digit));
@@ -212,6 +239,9 @@ returns-clause-lays_nodes g t c =
 pub returns-clause-shows : goal.returns-clause-shows
 returns-clause-shows g t c =
     shows_within _ _ c.args.edits.now.entries c.args.height (c.args.height - 1) c.args.number c.loop-digit.digit (above_is c.args.height c.if-height-eq0.false) (omega (arith, c.loop-digit.auto.digit-end)) (c.has_edits.ensures.0 c.if-not-has_edits.false) c.loop-digit.invariant.shows
+
+pub returns-clause-asks : goal.returns-clause-asks
+returns-clause-asks g t c = c.loop-digit.invariant.asks
 
 pub returns-clause-cause : goal.returns-clause-cause
 returns-clause-cause g t c =

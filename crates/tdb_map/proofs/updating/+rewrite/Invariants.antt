@@ -1,9 +1,9 @@
-use Rattle.std.proofs.Common.{◌≡◌, ℕ, ◌+◌, ◌-◌, ◌*◌, ◌<◌, length}
+use Rattle.std.proofs.Common.{◌≡◌, ℕ, ◌+◌, ◌-◌, ◌*◌, ◌<◌, None, length}
 use Rattle.tdb_node.specs.Node.{IsEntry}
-use Rattle.tdb_map.specs.Shown.{Shows}
+use Rattle.tdb_map.specs.Shown.{AsksOneOf, EachShown, Shows}
 use Rattle.tdb_map.specs.Nodes.{Grows, nodes_of}
-use Rattle.tdb_map.specs.Tree.{HasNode, entry}
-use Rattle.tdb_map.specs.Edits.{edits_in}
+use Rattle.tdb_map.specs.Tree.{HasNode, IsOnWayTo, entry}
+use Rattle.tdb_map.specs.Edits.{edit_at, edits_in}
 use Rattle.tdb_map.specs.Laid.{Lays, LaysNodes, laid_nodes}
 use Rattle.tdb_map.specs.Rewritten.{Rewritten}
 use Rattle.tdb_map.proofs.LaidLemmas.{IsBelow}
@@ -22,6 +22,7 @@ invariant-loop-digit g l =
       grows : Grows (texts l.fn.pieces) (texts l.pieces);
       node : HasNode (nodes_of (texts l.pieces) l.tree) (l.height - 1) l.number l.root l.before.entries;
       shows : Shows (shown l.fn.pieces) (shown l.pieces) (1 + (l.height - 1) * edits_in (l.height - 1) (l.number * 64) (l.number * 64 + l.digit) l.edits.entries);
+      asks : EachShown (shown l.fn.pieces) (shown l.pieces) (AsksOneOf (IsOnWayTo (nodes_of (texts l.pieces) l.tree) (λ (r : ℕ). edit_at l.edits.entries r ≡ None → ⊥) l.height l.number l.root));
       length : length l.after.entries ≡ 64;
       each_before : (k : ℕ) → IsEntry (entry l.before.entries k);
       each : (k : ℕ) → IsEntry (entry l.after.entries k);

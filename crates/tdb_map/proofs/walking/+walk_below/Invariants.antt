@@ -1,7 +1,7 @@
-use Rattle.std.proofs.Common.{◌+◌, ◌-◌, ◌*◌}
-use Rattle.tdb_map.specs.Shown.{Shows}
+use Rattle.std.proofs.Common.{◌≡◌, ℕ, ◌+◌, ◌-◌, ◌*◌}
+use Rattle.tdb_map.specs.Shown.{Shows, EachShown, AsksOneOf, ShowsOneOf}
 use Rattle.tdb_map.specs.Nodes.{Grows, nodes_of}
-use Rattle.tdb_map.specs.Tree.{node_count, HasNode}
+use Rattle.tdb_map.specs.Tree.{node_count, HasNode, IsOnWayTo}
 use Rattle.tdb_map.specs.Walk.{HasWalkedSome}
 use Rattle.tdb_map.proofs.walking.+walk_below.Given as goal
 
@@ -17,5 +17,8 @@ invariant-loop-digit g l =
       grows : Grows (texts l.fn.pieces) (texts l.pieces);
       node : HasNode (nodes_of (texts l.pieces) l.tree) (l.height - 1) l.number l.fn.root l.node.value.entries;
       shows : Shows (shown l.fn.pieces) (shown l.pieces) (1 + l.digit * node_count (l.height - 1));
+      asks : EachShown (shown l.fn.pieces) (shown l.pieces) (AsksOneOf (IsOnWayTo (nodes_of (texts l.pieces) l.tree) (λ (r : ℕ). Unit {0}) l.height l.number l.fn.root));
+      undamaged : EachShown (shown l.fn.pieces) (shown l.pieces) (ShowsOneOf (IsOnWayTo (nodes_of (texts l.pieces) l.tree) (λ (r : ℕ). Unit {0}) l.height l.number l.fn.root));
+      quiet : (shown l.pieces).faults ≡ (shown l.fn.pieces).faults;
       walked : HasWalkedSome (nodes_of (texts l.pieces) l.tree) (l.height - 1) (l.number * 64) (l.number * 64 + l.digit) l.node.value.entries l.fn.found.items l.found.items;
     }
