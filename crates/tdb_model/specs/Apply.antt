@@ -60,7 +60,8 @@ abbrev pub with_partition : State → ℕ → Option Partition → State
 with_partition state part None = state
 with_partition state part (Some p) = insert state part p
 
--- The state after a change of a commit with this count. A write, a free or a copy of a partition that isn't there changes nothing. `check` lets none of them pass, nor a partition that is made or copied over another.
+-- The state after a change of a commit with this count. A write, a free or a copy of a partition that isn't there
+-- changes nothing. `check` lets none of them pass, nor a partition that is made or copied over another.
 abbrev pub apply : ℕ → State → Change → State
 apply count state (Write part rank bytes) = with_partition state part.0 (option_map (with_chunk rank.0 bytes) (get state part.0))
 apply count state (Free part rank) = with_partition state part.0 (option_map (without_chunk rank.0) (get state part.0))

@@ -7,7 +7,9 @@ use Rattle.tdb_base.specs.declared.names.PartId.{PartId}
 use Rattle.tdb_model.specs.declared.change.Change.{Change}
 use Rattle.tdb_model.specs.declared.change.Change.TheVariants.{Write, Free, Make, Copy, Drop}
 use Rattle.tdb_model.specs.declared.error.CommitError.{CommitError}
-use Rattle.tdb_model.specs.declared.error.CommitError.TheVariants.{TooManyChanges, PartitionNumber, NoPartition, PartitionExists, PartitionTwice, Frozen, RankTooLarge, ChunkTooLong}
+use Rattle.tdb_model.specs.declared.error.CommitError.TheVariants.{TooManyChanges, PartitionNumber, NoPartition}
+use Rattle.tdb_model.specs.declared.error.CommitError.TheVariants.{PartitionExists, PartitionTwice, Frozen}
+use Rattle.tdb_model.specs.declared.error.CommitError.TheVariants.{RankTooLarge, ChunkTooLong}
 use Rattle.tdb_model.specs.Apply.{apply}
 use Rattle.tdb_model.specs.Limits.{partition_limit, rank_limit, chunk_limit, change_limit}
 use Rattle.tdb_model.specs.State.{State, Partition}
@@ -84,10 +86,12 @@ tests_of earlier state (Drop part) =
 abbrev pub refusal : List Change → State → Change → Option CommitError
 refusal earlier state change = first_that_holds (tests_of earlier state change)
 
--- The answer to the first of the later changes that is refused, each against the state after those before it. No test reads a count, so that of the commit doesn't matter, and 0 stands for it.
+-- The answer to the first of the later changes that is refused, each against the state after those before it. No test
+-- reads a count, so that of the commit doesn't matter, and 0 stands for it.
 abbrev pub first_refusal : List Change → State → List Change → Option CommitError
 first_refusal earlier state [] = None
-first_refusal earlier state (change ∷ later) = option_or (refusal earlier state change) (first_refusal (earlier ++ change ∷ []) (apply 0 state change) later)
+first_refusal earlier state (change ∷ later) = option_or (refusal earlier state change)
+    (first_refusal (earlier ++ change ∷ []) (apply 0 state change) later)
 
 -- why the changes of a commit are refused, but for their number
 abbrev pub check : State → List Change → Option CommitError

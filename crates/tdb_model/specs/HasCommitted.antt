@@ -1,5 +1,6 @@
 -- What a commit says.
-use Rattle.std.specs.Prelude.{◌≡◌, ◌≢◌, ◌⊎◌, ◌<◌, ◌≤◌, ◌^◌, ℕ, true, false, List, [], ◌∷◌, length, Result, Err, Some, None, IfErr, OnOk, All}
+use Rattle.std.specs.Prelude.{◌≡◌, ◌≢◌, ◌⊎◌, ◌<◌, ◌≤◌, ◌^◌, ℕ, true, false, List, [], ◌∷◌, length, Result, Err, Some}
+use Rattle.std.specs.Prelude.{None, IfErr, OnOk, All}
 use Rattle.tdb_model.specs.Apply.{apply_all}
 use Rattle.tdb_model.specs.Check.{check_commit}
 use Rattle.tdb_model.specs.Limits.{change_limit, count_limit}
@@ -9,7 +10,10 @@ use Rattle.tdb_model.specs.Stays.{Stays, TellsFaults}
 use Rattle.tdb_model.specs.declared.change.Change.{Change}
 use Rattle.tdb_model.specs.declared.change.Change.TheVariants.{Write, Free, Make, Copy, Drop}
 use Rattle.tdb_model.specs.declared.error.CommitError.{CommitError}
-use Rattle.tdb_model.specs.declared.error.CommitError.TheVariants.{Stopped, TooManyChanges, PartitionNumber, NoPartition, PartitionExists, PartitionTwice, Frozen, RankTooLarge, ChunkTooLong, RingFull, CounterEnd, NoRoom, Memory, Fault}
+use Rattle.tdb_model.specs.declared.error.CommitError.TheVariants.{Stopped, TooManyChanges, PartitionNumber}
+use Rattle.tdb_model.specs.declared.error.CommitError.TheVariants.{NoPartition, PartitionExists, PartitionTwice, Frozen}
+use Rattle.tdb_model.specs.declared.error.CommitError.TheVariants.{RankTooLarge, ChunkTooLong, RingFull, CounterEnd}
+use Rattle.tdb_model.specs.declared.error.CommitError.TheVariants.{NoRoom, Memory, Fault}
 
 -- what is written has fewer than 4,294,967,296 bytes
 abbrev pub IsShort : Change → Type 0

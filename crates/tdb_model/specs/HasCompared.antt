@@ -1,5 +1,6 @@
 -- What calls say that go over the ranks of partitions.
-use Rattle.std.specs.Prelude.{◌≡◌, ◌≢◌, ◌⊎◌, ◌<◌, ◌↔◌, ℕ, true, false, List, Option, Some, None, Result, Err, IfOk, IfErr, AllPairs, Contains}
+use Rattle.std.specs.Prelude.{◌≡◌, ◌≢◌, ◌⊎◌, ◌<◌, ◌↔◌, ℕ, true, false, List, Option, Some, None, Result, Err, IfOk}
+use Rattle.std.specs.Prelude.{IfErr, AllPairs, Contains}
 use Rattle.std.specs.FinMap.{get}
 use Rattle.std.specs.Global.{Vec}
 use Rattle.tdb_base.specs.declared.names.PartId.{PartId}

@@ -33,7 +33,8 @@ pub record HasRead {C : Type 0} (m : Meanings C) (part : PartId) (rank : Rank) (
   pub stopped : m.is_stopped new ≡ m.is_stopped old
   pub bytes : m.told new → (s : State) → m.state old s → IfOk result (λ bytes. chunk_at s part.0 rank.0 ≡ Some bytes.items)
   pub verified : m.verifies new → OnOk result (m.verified_reads old new part rank)
-  pub undamaged : m.told new → OnOk result ((damage : Damage) → m.damage_seen old new damage (OfChunk part rank) → ⊥)
+  pub undamaged : m.told new → (s : State) → m.state old s
+      → OnOk result ((damage : Damage) → m.damage_seen old new damage (OfChunk part rank) → ⊥)
   pub cause : IfErr result (ReadCause m part rank old new)
   -- A stopped store reads nothing.
   pub first : m.is_stopped old ≡ true → result ≡ Err Stopped

@@ -54,7 +54,15 @@ abbrev pub coded_partition : Coded Partition
 coded_partition = code_by (Suite × ((ℕ × ℕ) × ((ℕ × ℕ) × (ℕ × Chunks))))
     (coded× coded_suite (coded× (coded× coded_ℕ coded_ℕ) (coded× (coded× coded_ℕ coded_ℕ) (coded× coded_ℕ coded_chunks))))
     (λ p. (p.suite, ((p.home, p.birth), ((p.next, p.parent), (p.born, p.chunks)))))
-    (λ t. record { suite = t.0; home = t.1.0.0; birth = t.1.0.1; next = t.1.1.0.0; parent = t.1.1.0.1; born = t.1.1.1.0; chunks = t.1.1.1.1 })
+    (λ t. record {
+      suite = t.0;
+      home = t.1.0.0;
+      birth = t.1.0.1;
+      next = t.1.1.0.0;
+      parent = t.1.1.0.1;
+      born = t.1.1.1.0;
+      chunks = t.1.1.1.1;
+    })
     (λ _. refl)
 
 abbrev pub coded_state : Coded State

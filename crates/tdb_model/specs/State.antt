@@ -11,7 +11,8 @@ Chunks = FinMap nat_cmp (List ℕ)
 pub record Partition : Type 0 where
   -- how its chunks are sealed
   pub suite : Suite
-  -- The number of the partition that was made, and the count of the commit that made it. A copy has those of its source, so these two name the key.
+  -- The number of the partition that was made, and the count of the commit that made it. A copy has those of its
+  -- source, so these two name the key.
   pub home : ℕ
   pub birth : ℕ
   -- one more than the greatest rank that was ever written, and 0 where none was

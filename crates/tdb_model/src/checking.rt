@@ -2,7 +2,8 @@
 ghost use Rattle.std.specs.Prelude.{◌≡◌, ◌<◌, ◌^◌, None, OnOk, length};
 ghost use Rattle.std.specs.Result.{result_err};
 ghost use Rattle.tdb_model.specs.Apply.{apply_all};
-ghost use Rattle.tdb_model.specs.Check.{check, check_commit, first_that_holds, is_frozen, is_no_number, is_target, is_there, has_target, refusal};
+ghost use Rattle.tdb_model.specs.Check.{check, check_commit, first_that_holds, is_frozen, is_no_number, is_target};
+ghost use Rattle.tdb_model.specs.Check.{is_there, has_target, refusal};
 ghost use Rattle.tdb_model.specs.declared.change.Change.TheVariants.{Write, Free, Make, Copy, Drop};
 ghost use Rattle.tdb_model.specs.Lookup.{parent_at};
 ghost use Rattle.tdb_model.specs.Memory.{parent_behind};

@@ -15,13 +15,15 @@ ghost use Rattle.tdb_model.specs.declared.change.Change.TheVariants.{Write, Free
 
 /// One commit more applies its changes to the state before.
 pub fn history_goes_on()
-    ensures { (history : History) (count : ℕ) (changes : List Change) → state_of (history ++ (count, changes) ∷ []) ≡ apply_all count (state_of history) changes }
+    ensures { (history : History) (count : ℕ) (changes : List Change)
+        → state_of (history ++ (count, changes) ∷ []) ≡ apply_all count (state_of history) changes }
 {}
 
 /// The empty database is in range, and changes that pass the check keep a database so.
 pub fn ranges_are_kept()
     ensures begins { IsInRange no_partitions }
-    ensures keeps { (count : ℕ) (state : State) (changes : List Change) → 1 ≤ count → IsInRange state → check state changes ≡ None → IsInRange (apply_all count state changes) }
+    ensures keeps { (count : ℕ) (state : State) (changes : List Change) → 1 ≤ count → IsInRange state → check state changes ≡ None
+        → IsInRange (apply_all count state changes) }
 {}
 
 /// A copy is frozen: a change that passes the check leaves it as it is, or drops it.
@@ -40,7 +42,8 @@ pub fn free_of_no_chunk_changes_nothing()
 /// Whatever count a change gets, the changes behind it are refused alike.
 pub fn no_test_reads_a_count()
     ensures { (count : ℕ) (earlier : List Change) (state : State) (change : Change) (later : List Change) →
-        first_refusal earlier state (change ∷ later) ≡ option_or (refusal earlier state change) (first_refusal (earlier ++ change ∷ []) (apply count state change) later) }
+        first_refusal earlier state (change ∷ later) ≡ option_or (refusal earlier state change)
+        (first_refusal (earlier ++ change ∷ []) (apply count state change) later) }
 {}
 
 /// A new database after its opening commit, which has count 2, and one write.

@@ -218,7 +218,8 @@ impl MemoryState {
 
     fn write(&mut self, part: u32, rank: u32, bytes: Vec<u8>) -> Result<(), AllocError>
         requires { rank < 262144 }
-        ensures ok { OnOk result (self.new ≡ with_partition self.old part (option_map (with_chunk rank bytes.items) (map.get self.old part))) }
+        ensures ok { OnOk result
+            (self.new ≡ with_partition self.old part (option_map (with_chunk rank bytes.items) (map.get self.old part))) }
         ensures err { OnErr result (self.new ≡ self.old) }
     {
         match self.partitions.get_mut(&part) {
