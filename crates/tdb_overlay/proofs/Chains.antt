@@ -104,11 +104,11 @@ counts_from f store before c (d ∷ chain) history last ring formats is =
     record { base = rest.base; some = rest.some; least = rest.least; commits = rest.commits }
 
 module _ (f : Finds) (store : Store) where
-  adds_one : (before : StoreState) (c : Commit) (added : History) (after : StoreState) → Adds f store before c added after → after.count ≡ before.count + 1
+  pub adds_one : (before : StoreState) (c : Commit) (added : History) (after : StoreState) → Adds f store before c added after → after.count ≡ before.count + 1
   adds_one before c added after (inl checkpoint) = ap (λ (s : StoreState). s.count) checkpoint.0.after_is ∙ checkpoint.0.next
   adds_one before c added after (inr commit) = ap (λ (s : StoreState). s.count) (allows store before commit.0 after commit.1.allowed).after_is
 
-  count_from : (before : StoreState) (chain : List Commit) (history : History) (last : StoreState) → IsLogOf f store before chain history last → last.count ≡ before.count + length chain
+  pub count_from : (before : StoreState) (chain : List Commit) (history : History) (last : StoreState) → IsLogOf f store before chain history last → last.count ≡ before.count + length chain
   count_from before [] history last is = let same : last.count ≡ before.count = ap (λ (s : StoreState). s.count) is.1 in omega (arith, same)
   count_from before (c ∷ chain) history last is = omega (arith, adds_one before c is.0 is.1 is.3.adds, count_from is.1 chain is.2 last is.4)
 

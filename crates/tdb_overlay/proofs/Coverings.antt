@@ -17,11 +17,13 @@ use Rattle.tdb_model.specs.declared.change.Change.TheVariants.{Write, Free, Make
 use Rattle.tdb_model.proofs.MapLemmas.{get_inserted, get_removed}
 use Rattle.tdb_seal.specs.SealedRecord.{IsSealedRecord}
 use Rattle.tdb_overlay.specs.Changes.{IsWritten, IsChangeOf, AreChangesOf}
-use Rattle.tdb_overlay.specs.Covering.{Covered, Covers, no_covers, suite_numbered, cover_written, cover_freed, cover_made, cover_copied, with_cover, noted, noted_all, IsRecordOfChunk, IsCoveredChunk, IsCoveredPartition, IsCoveredAt, IsCovering}
+use Rattle.tdb_overlay.specs.Covering.{Covered, Covers, no_covers, suite_numbered, cover_written, cover_freed, cover_made, cover_copied, with_cover, noted, noted_all, IsCoveredChunk, IsCoveredPartition, IsCoveredAt, IsCovering}
 use Rattle.tdb_overlay.specs.Found.{Finds}
 use Rattle.tdb_overlay.specs.Keys.{partition_key}
 use Rattle.tdb_overlay.specs.Log.{IsOfPartition, IsOwned, AreOwned}
 use Rattle.tdb_overlay.specs.Found.{Finer}
+use Rattle.tdb_overlay.specs.Trees.{IsRecordOfChunk, tree_of}
+use Rattle.tdb_overlay.proofs.TreeLaws.{chunk_finer, rootless_chunk, tree_chunk_again}
 
 pub noted_all-push : (count : ℕ) (covers : Covers) (entries : List Entry) (e : Entry) → noted_all count covers (entries ++ e ∷ []) ≡ noted count (noted_all count covers entries) e
 noted_all-push count covers [] e = refl
@@ -53,16 +55,20 @@ suite_again Aes256 = refl
 
 module _ (finds : Finds) (secret : List ℕ) where
   -- a chunk is covered by what names its record's key, and by nothing else of its partition
-  chunk_again : (p : Partition) (next parent born : ℕ) (chunks : Chunks) (rank : ℕ) (edit : Option (Option Piece)) (chunk : Option (List ℕ)) → IsCoveredChunk finds secret p rank edit chunk
-      → IsCoveredChunk finds secret (record { suite = p.suite; home = p.home; birth = p.birth; next = next; parent = parent; born = born; chunks = chunks }) rank edit chunk
-  chunk_again p next parent born chunks rank (Some (Some piece)) (Some bytes) is = record { sealed = is.sealed; found = is.found; opened = is.opened }
-  chunk_again p next parent born chunks rank (Some (Some piece)) None is = absurd is
-  chunk_again p next parent born chunks rank (Some None) chunk is = is
-  chunk_again p next parent born chunks rank None chunk is = is
+  chunk_again : (root : Option Piece) (p : Partition) (next parent born : ℕ) (chunks : Chunks) (rank : ℕ) (edit : Option (Option Piece)) (chunk : Option (List ℕ))
+      → IsCoveredChunk finds secret root p rank edit chunk
+      → IsCoveredChunk finds secret root (record { suite = p.suite; home = p.home; birth = p.birth; next = next; parent = parent; born = born; chunks = chunks }) rank edit chunk
+  chunk_again root p next parent born chunks rank (Some (Some piece)) (Some bytes) is = record { sealed = is.sealed; found = is.found; opened = is.opened }
+  chunk_again root p next parent born chunks rank (Some (Some piece)) None is = absurd is
+  chunk_again root p next parent born chunks rank (Some None) chunk is = is
+  chunk_again root p next parent born chunks rank None chunk is =
+      tree_chunk_again finds secret (tree_of secret p.suite p.home p.birth root) p next parent born chunks rank chunk is
 
-  chunk_at : (p : Partition) (rank : ℕ) (edit edit_is : Option (Option Piece)) (chunk chunk_is : Option (List ℕ)) → edit ≡ edit_is → chunk ≡ chunk_is → IsCoveredChunk finds secret p rank edit_is chunk_is → IsCoveredChunk finds secret p rank edit chunk
-  chunk_at p rank edit edit_is chunk chunk_is same_edit same_chunk is =
-      subst (λ (o : Option (Option Piece)). IsCoveredChunk finds secret p rank o chunk) (sym same_edit) (subst (λ (o : Option (List ℕ)). IsCoveredChunk finds secret p rank edit_is o) (sym same_chunk) is)
+  chunk_at : (root : Option Piece) (p : Partition) (rank : ℕ) (edit edit_is : Option (Option Piece)) (chunk chunk_is : Option (List ℕ)) → edit ≡ edit_is → chunk ≡ chunk_is
+      → IsCoveredChunk finds secret root p rank edit_is chunk_is → IsCoveredChunk finds secret root p rank edit chunk
+  chunk_at root p rank edit edit_is chunk chunk_is same_edit same_chunk is =
+      subst (λ (o : Option (Option Piece)). IsCoveredChunk finds secret root p rank o chunk) (sym same_edit)
+      (subst (λ (o : Option (List ℕ)). IsCoveredChunk finds secret root p rank edit_is o) (sym same_chunk) is)
 
   covered_written : (c : Covered) (p : Partition) (rank : ℕ) (piece : Piece) (bytes : List ℕ) → IsCoveredPartition finds secret c p → IsRecordOfChunk finds secret p rank piece bytes
       → IsCoveredPartition finds secret (cover_written rank piece c) (with_chunk rank bytes p)
@@ -73,9 +79,9 @@ module _ (finds : Finds) (secret : List ℕ) where
     next = ap (λ (n : ℕ). max n (rank + 1)) is.next;
     parent = is.parent;
     born = is.born;
-    chunks = λ r. chunk_again p (max p.next (rank + 1)) p.parent p.born (insert p.chunks rank bytes) r (get (insert c.edits rank (Some piece)) r) (get (insert p.chunks rank bytes) r)
-        (chunk_at p r _ (cond (r == rank) (Some (Some piece)) (get c.edits r)) _ (cond (r == rank) (Some bytes) (get p.chunks r)) (get_inserted c.edits rank (Some piece) r) (get_inserted p.chunks rank bytes r)
-        (elim (r == rank) as (λ (b : Bool). (r == rank) ≡ b → IsCoveredChunk finds secret p r (cond b (Some (Some piece)) (get c.edits r)) (cond b (Some bytes) (get p.chunks r))) [
+    chunks = λ r. chunk_again c.root p (max p.next (rank + 1)) p.parent p.born (insert p.chunks rank bytes) r (get (insert c.edits rank (Some piece)) r) (get (insert p.chunks rank bytes) r)
+        (chunk_at c.root p r _ (cond (r == rank) (Some (Some piece)) (get c.edits r)) _ (cond (r == rank) (Some bytes) (get p.chunks r)) (get_inserted c.edits rank (Some piece) r) (get_inserted p.chunks rank bytes r)
+        (elim (r == rank) as (λ (b : Bool). (r == rank) ≡ b → IsCoveredChunk finds secret c.root p r (cond b (Some (Some piece)) (get c.edits r)) (cond b (Some bytes) (get p.chunks r))) [
           | true ↦ λ at. subst (λ (n : ℕ). IsRecordOfChunk finds secret p n piece bytes) (sym (eqb-true r rank at)) written
           | false ↦ λ apart. is.chunks r
         ] refl));
@@ -89,9 +95,9 @@ module _ (finds : Finds) (secret : List ℕ) where
     next = is.next;
     parent = is.parent;
     born = is.born;
-    chunks = λ r. chunk_again p p.next p.parent p.born (remove p.chunks rank) r (get (insert c.edits rank None) r) (get (remove p.chunks rank) r)
-        (chunk_at p r _ (cond (r == rank) (Some None) (get c.edits r)) _ (cond (r == rank) None (get p.chunks r)) (get_inserted c.edits rank None r) (get_removed p.chunks rank r)
-        (elim (r == rank) as (λ (b : Bool). IsCoveredChunk finds secret p r (cond b (Some None) (get c.edits r)) (cond b None (get p.chunks r))) [
+    chunks = λ r. chunk_again c.root p p.next p.parent p.born (remove p.chunks rank) r (get (insert c.edits rank None) r) (get (remove p.chunks rank) r)
+        (chunk_at c.root p r _ (cond (r == rank) (Some None) (get c.edits r)) _ (cond (r == rank) None (get p.chunks r)) (get_inserted c.edits rank None r) (get_removed p.chunks rank r)
+        (elim (r == rank) as (λ (b : Bool). IsCoveredChunk finds secret c.root p r (cond b (Some None) (get c.edits r)) (cond b None (get p.chunks r))) [
           | true ↦ refl
           | false ↦ is.chunks r
         ]));
@@ -105,7 +111,8 @@ module _ (finds : Finds) (secret : List ℕ) where
     next = refl;
     parent = refl;
     born = refl;
-    chunks = λ r. chunk_at (made count part suite) r _ None _ None (get-empty {X = Option Piece} nat_cmp r) (get-empty {X = List ℕ} nat_cmp r) refl;
+    chunks = λ r. chunk_at None (made count part suite) r _ None _ None (get-empty {X = Option Piece} nat_cmp r) (get-empty {X = List ℕ} nat_cmp r)
+        (rootless_chunk finds secret (tree_of secret suite part count None) (made count part suite) r refl);
   }
 
   covered_copied : (count from part : ℕ) (c : Covered) (p : Partition) → from ≡ part → IsCoveredPartition finds secret c p → IsCoveredPartition finds secret (cover_copied count from c) (copied count part p)
@@ -116,7 +123,7 @@ module _ (finds : Finds) (secret : List ℕ) where
     next = is.next;
     parent = same;
     born = refl;
-    chunks = λ r. chunk_again p p.next part count p.chunks r (get c.edits r) (get p.chunks r) (is.chunks r);
+    chunks = λ r. chunk_again c.root p p.next part count p.chunks r (get c.edits r) (get p.chunks r) (is.chunks r);
   }
 
   covered_at : (cover cover_is : Option Covered) (found found_is : Option Partition) → cover ≡ cover_is → found ≡ found_is → IsCoveredAt finds secret cover_is found_is → IsCoveredAt finds secret cover found
@@ -226,11 +233,12 @@ module _ (finds : Finds) (secret : List ℕ) where
       covering_noted count (noted count covers e) (apply count state change) entries changes (covering_one count covers state is e change are.0 owned.0) are.1 owned.1
 
 module _ (f g : Finds) (finer : Finer f g) (secret : List ℕ) where
-  chunk_finer : (p : Partition) (rank : ℕ) (edit : Option (Option Piece)) (chunk : Option (List ℕ)) → IsCoveredChunk f secret p rank edit chunk → IsCoveredChunk g secret p rank edit chunk
-  chunk_finer p rank (Some (Some piece)) (Some bytes) is = record { sealed = is.sealed; found = finer piece is.sealed is.found; opened = is.opened }
-  chunk_finer p rank (Some (Some piece)) None is = absurd is
-  chunk_finer p rank (Some None) chunk is = is
-  chunk_finer p rank None chunk is = is
+  edit_finer : (root : Option Piece) (p : Partition) (rank : ℕ) (edit : Option (Option Piece)) (chunk : Option (List ℕ))
+      → IsCoveredChunk f secret root p rank edit chunk → IsCoveredChunk g secret root p rank edit chunk
+  edit_finer root p rank (Some (Some piece)) (Some bytes) is = record { sealed = is.sealed; found = finer piece is.sealed is.found; opened = is.opened }
+  edit_finer root p rank (Some (Some piece)) None is = absurd is
+  edit_finer root p rank (Some None) chunk is = is
+  edit_finer root p rank None chunk is = chunk_finer f g finer secret (tree_of secret p.suite p.home p.birth root) p rank chunk is
 
   at_finer : (cover : Option Covered) (found : Option Partition) → IsCoveredAt f secret cover found → IsCoveredAt g secret cover found
   at_finer (Some c) (Some p) is = record {
@@ -240,7 +248,7 @@ module _ (f g : Finds) (finer : Finer f g) (secret : List ℕ) where
     next = is.next;
     parent = is.parent;
     born = is.born;
-    chunks = λ rank. chunk_finer p rank (get c.edits rank) (get p.chunks rank) (is.chunks rank);
+    chunks = λ rank. edit_finer c.root p rank (get c.edits rank) (get p.chunks rank) (is.chunks rank);
   }
   at_finer None None is = tt
   at_finer (Some c) None is = absurd is

@@ -24,27 +24,12 @@ use Rattle.tdb_overlay.specs.StoreState.{StoreState, first_state}
 use Rattle.tdb_overlay.specs.WellFormedLog.{EachText, IsAccepted, IsWellFormedLog, IsWellFormedTrace, NamesText, TextLog}
 use Rattle.tdb_overlay.proofs.Listed.{all_listed, one_of_all, one_of_front}
 use Rattle.tdb_overlay.proofs.LogLaws.{log_stays}
+use Rattle.tdb_overlay.proofs.Magics.{sealed_is_no_text}
 use Rattle.tdb_overlay.proofs.PutLogs.{follows_is, found_in_put, grows_all, head_log, in_later_trace, log_grown, each_was_written, was_written_more}
-
--- the first eight bytes of a record, and those of a text
-record_magic : (suite : Suite) (key : List ℕ) (name : Name) (plain : List ℕ) → take 8 (sealed_under suite key name plain) ≡ codes "TDBREC01"
-unfolding record_head ciphered_record
-record_magic Plain key name plain = refl
-record_magic Aes128 key name plain = refl
-record_magic Aes256 key name plain = refl
-
-text_magic : (key : List ℕ) (c : Commit) → take 8 (commit_text key c) ≡ codes "TDBCMT01"
-unfolding commit_fields
-text_magic key c = refl
 
 -- A sealed record is no text.
 pub record_is_no_text : (secret bytes : List ℕ) (c : Commit) → IsRecord secret bytes → IsAccepted secret bytes c → ⊥
-record_is_no_text secret bytes c is accepted =
-    let spelled : bytes ≡ commit_text (commit_key_of secret) c = (commit_of_is (commit_key_of secret) bytes c accepted).spelled in
-    let of_record : take 8 bytes ≡ codes "TDBREC01" = ap (take 8) is.sealed.spelled ∙ record_magic is.name.suite is.key is.name is.plain in
-    let of_text : take 8 bytes ≡ codes "TDBCMT01" = ap (take 8) spelled ∙ text_magic (commit_key_of secret) c in
-    let third : 82 ≡ 67 = ap (λ (l : List ℕ). get_or l 3 0) (sym of_record ∙ of_text) in
-    absurd (omega (arith, third))
+record_is_no_text secret bytes c is accepted = sealed_is_no_text secret bytes is.key is.plain is.name c is.sealed accepted
 
 -- whatever was written at the end of a put
 written_in_put : (t : Trace) (qs : List Placed) (bytes : List ℕ) → WasWritten (with_all_written t qs).written bytes

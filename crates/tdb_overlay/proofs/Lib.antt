@@ -1,4 +1,5 @@
 pub mod AdvanceRan
+pub mod Apart
 pub mod Chains
 pub mod CheckpointLaws
 pub mod Coverings
@@ -7,12 +8,14 @@ pub mod KeptCovers
 pub mod KeptLaws
 pub mod Lengths
 pub mod Listed
+pub mod Magics
 pub mod LogLaws
 pub mod Needing
 pub mod NextLaws
 pub mod NextTexts
 pub mod OneLog
 pub mod Pending
+pub mod PiecesRead
 pub mod PlacedLogs
 pub mod Placings
 pub mod PutLogs
@@ -20,8 +23,11 @@ pub mod PutRan
 pub mod RanLaws
 pub mod ReadingLaws
 pub mod RequiredLaws
+pub mod RosterCovers
 pub mod SealedPuts
 pub mod Steps
 pub mod Telling
 pub mod TextsRan
+pub mod TreeLaws
 pub mod Unmistaken
+pub mod TreeRead

@@ -1,7 +1,8 @@
 -- A log stays as more is written, becomes longer by a text, and leads to the state of its history.
-use Rattle.std.proofs.Common.{◌≡◌, inl, inr, ⊎_elim, ◌+◌, ◌==◌, ℕ, Bool, true, false, cond, List, [], ◌∷◌, ◌++◌, Option, Some, None, Result, Ok, Err, refl, sym, ◌∙◌, ap, subst, append-nil, append_assoc}
+use Rattle.std.proofs.Common.{◌⊎◌, ◌≡◌, inl, inr, ⊎_elim, ◌+◌, ◌==◌, ℕ, Bool, true, false, cond, List, [], ◌∷◌, ◌++◌, Option, Some, None, Result, Ok, Err, refl, sym, ◌∙◌, ap, subst, append-nil, append_assoc}
 use Rattle.std.proofs.lemmas.Bool.{false≢true, eq-eqb}
 use Rattle.std.proofs.lemmas.Option.{same_Some}
+use Rattle.tdb_base.specs.declared.piece.Piece.{Piece}
 use Rattle.tdb_base.specs.declared.piece.Place.{Place}
 use Rattle.tdb_base.specs.declared.piece.NoRoom as refusals
 use Rattle.tdb_base.specs.Trace.{WrittenPiece}
@@ -19,7 +20,8 @@ use Rattle.tdb_model.specs.Check.{check_commit}
 use Rattle.tdb_model.specs.State.{State}
 use Rattle.tdb_platform.specs.Outside.{Anchor}
 use Rattle.tdb_seg.specs.SegmentSpace.{SegmentSpace}
-use Rattle.tdb_overlay.proofs.CheckpointLaws.{reached_before, tree_stays}
+use Rattle.tdb_overlay.specs.CheckpointState.{IsReached}
+use Rattle.tdb_overlay.proofs.CheckpointLaws.{narrow_stays, reached_before, tree_stays}
 use Rattle.tdb_overlay.specs.Changes.{IsChangeOf, AreChangesOf, HasChanges, HasTable}
 use Rattle.tdb_overlay.specs.Found.{Finds, FindsOne, Finer, Store, in_trace}
 use Rattle.tdb_overlay.specs.Log.{IsCommitOn, IsCheckpointOn, Adds, IsStep, IsLogOf, IsLog}
@@ -87,15 +89,20 @@ module _ (f g : Finds) (finer : Finer f g) where
 
     module _ (one : FindsOne g) where
       pub checkpoint_stays : (before : StoreState) (c : Commit) (after : StoreState) → IsCheckpointOn f store before c after → IsCheckpointOn g store before c after
-      checkpoint_stays before c after is = record {
-        kind = is.kind;
-        next = is.next;
-        segments = is.segments;
-        table = table_stays store.secret c is.table;
-        tree = tree_stays f g finer store c.root before.chunks is.tree;
-        after_is = is.after_is;
-        placed = λ piece here. is.placed piece (⊎_elim (λ same. inl same) (λ reached. inr (reached_before f g finer one store c.root before.chunks piece is.tree reached)) here);
-      }
+      checkpoint_stays before c after is =
+          let rested : (piece : Piece) → (piece ≡ c.first) ⊎ IsReached g store c.root piece → (piece ≡ c.first) ⊎ IsReached f store c.root piece =
+          λ piece here. ⊎_elim (λ same. inl same) (λ reached. inr (reached_before f g finer one store c.root before.chunks piece is.tree reached)) here in
+          record {
+            kind = is.kind;
+            next = is.next;
+            segments = is.segments;
+            table = table_stays store.secret c is.table;
+            tree = tree_stays f g finer store c.root before.chunks is.tree;
+            narrow = narrow_stays f g finer store c.root is.narrow;
+            after_is = is.after_is;
+            placed = λ piece here. is.placed piece (rested piece here);
+            apart = λ p q p_here q_here. is.apart p q (rested p p_here) (rested q q_here);
+          }
 
       adds_stays : (before : StoreState) (c : Commit) (added : History) (after : StoreState) → Adds f store before c added after → Adds g store before c added after
       adds_stays before c added after (inl checkpoint) = inl (checkpoint_stays before c after checkpoint.0, checkpoint.1)

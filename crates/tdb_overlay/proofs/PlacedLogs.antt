@@ -115,12 +115,12 @@ module _ (f : Finds) (sized : IsSized f) (store : Store) where
       ∙ placed f sized store before c changes after is same)
 
   -- a commit comes after some text
-  commit_behind : (before : StoreState) (c : Commit) (changes : List Change) (after : StoreState) → IsInFormat c
+  pub commit_behind : (before : StoreState) (c : Commit) (changes : List Change) (after : StoreState) → IsInFormat c
       → IsCommitOn f store before c changes after → HasSpace before → IsSegmentSpace before.space
   commit_behind before c changes after format is (inl none) = absurd (omega (arith, none, is.base, format.base))
   commit_behind before c changes after format is (inr valid) = valid
 
-  step_placed : (before : StoreState) (c : Commit) (added : History) (after : StoreState) → IsInFormat c → c.suite ≡ store.suite
+  pub step_placed : (before : StoreState) (c : Commit) (added : History) (after : StoreState) → IsInFormat c → c.suite ≡ store.suite
       → HasSpace before → Adds f store before c added after → StepPlaced before c after
   step_placed before c added after format same valid (inl checkpoint) =
       let is = checkpoint.0 in
@@ -149,12 +149,12 @@ module _ (f : Finds) (sized : IsSized f) (store : Store) where
       }
 
   -- what the texts of a log make of them
-  record LogPlaced (before last : StoreState) : Type 0 where
-    base : before.base ≤ last.base
-    count : before.count ≤ last.count
-    stays : last.base ≤ before.count → Stay before.space last.space
+  pub record LogPlaced (before last : StoreState) : Type 0 where
+    pub base : before.base ≤ last.base
+    pub count : before.count ≤ last.count
+    pub stays : last.base ≤ before.count → Stay before.space last.space
 
-  log_placed : (before : StoreState) (chain : List Commit) (history : History) (last : StoreState) → AllByRecursion IsInFormat chain
+  pub log_placed : (before : StoreState) (chain : List Commit) (history : History) (last : StoreState) → AllByRecursion IsInFormat chain
       → HasSpace before → before.base ≤ before.count → IsLogOf f store before chain history last → LogPlaced before last
   log_placed before [] history last formats valid least is = subst (LogPlaced before) (sym is.1)
       (record { base = omega arith; count = omega arith; stays = λ since q m old. old })

@@ -18,7 +18,7 @@ use Rattle.tdb_overlay.specs.Growth.{IsSettled}
 use Rattle.tdb_overlay.specs.Images.{IsIntactIn}
 use Rattle.tdb_overlay.specs.Log.{IsLog}
 use Rattle.tdb_overlay.specs.NextText.{GoesOnWith, IsLaidText}
-use Rattle.tdb_overlay.specs.Ran.{EachHasLog, EndsBehind, EachNewText, FromLeft, IsFront, Leads, RanOn, RanStep, WritesTexts}
+use Rattle.tdb_overlay.specs.Ran.{EachHasLog, EndsBehind, EachNewText, FromLeft, Leads, RanOn, RanStep, WritesTexts}
 use Rattle.tdb_overlay.specs.SealedOnly.{IsTextInSlot}
 use Rattle.tdb_overlay.specs.Sound.{IsSound}
 use Rattle.tdb_overlay.specs.StoreState.{StoreState}

@@ -1,14 +1,15 @@
 -- Calls that only read, one after another.
-use Rattle.std.proofs.Common.{◌≡◌, ℕ, ◌≤◌, List, IsTrue, Result, refl, sym, ◌∙◌, ap, arith, subst, take, drop, length}
+use Rattle.std.proofs.Common.{◌≡◌, ℕ, ◌≤◌, List, IsTrue, Result, sym, ◌∙◌, ap, arith, subst, take, drop, length}
 use Rattle.std.proofs.lemmas.List.{ext_get_or, get_or-drop, get_or-take, length-drop, length-take}
 use Rattle.tdb_base.specs.Trace.{Trace, Extends, with_read}
-use Rattle.tdb_base.proofs.Tracing.{extends_itself, extends_read, extends_along}
+use Rattle.tdb_base.proofs.Tracing.{extends_itself, extends_read}
 use Rattle.tdb_platform.specs.Outside.{Outside, Anchor, Told}
-use Rattle.tdb_platform.specs.CrashStates.{CrashStates, Elapses, now, LeavesNoMore, LeavesOnly}
+use Rattle.tdb_platform.specs.CrashStates.{CrashStates, Elapses, now, LeavesNoMore}
 use Rattle.tdb_platform.specs.Image.{Holds}
-use Rattle.tdb_platform.proofs.Moments.{started, goes_on, goes_on_by}
+use Rattle.tdb_platform.proofs.Moments.{started, goes_on}
 use Rattle.tdb_overlay.specs.Growth.{IsSettled}
 use Rattle.tdb_overlay.specs.Reading.{OnlyReads}
+pub use Rattle.tdb_overlay.specs.ReadsJoin.{reads_nothing, reads_then}
 
 -- A read of a piece that stands gives it.
 pub shows_held : (image : List ℕ) (at : ℕ) (bytes : List ℕ) → Holds image at bytes → take (length bytes) (drop at image) ≡ bytes
@@ -21,19 +22,6 @@ shows_held image at bytes held =
 
 module _ {D : Type 0} (outside : D → Outside) (crash_states : D → CrashStates)
     (counts : (p : D) (t u : ℕ) (i : List ℕ) (a : Anchor) → t ≤ u → u ≤ (outside p).clock → crash_states p u i a → crash_states p t i a) where
-  -- no call
-  pub reads_nothing : (p : D) → OnlyReads outside crash_states p p
-  reads_nothing p = record {
-    grows = λ t. extends_itself (outside p).trace;
-    written = λ t. refl;
-    anchor = λ t. refl;
-    image = λ h. refl;
-    left = started outside crash_states counts p (now outside crash_states p) (λ i a left. left);
-    tells = refl;
-    honest = refl;
-    faults = omega arith;
-  }
-
   reads_by_call : {T E : Type 0} (old new : D) (result : Result T E) → (IsTrue (outside old).tells → Extends (outside old).trace (outside new).trace)
       → (IsTrue (outside old).tells → (outside new).trace.written ≡ (outside old).trace.written)
       → (IsTrue (outside old).honest → (outside new).image ≡ (outside old).image)
@@ -73,27 +61,6 @@ module _ {D : Type 0} (outside : D → Outside) (crash_states : D → CrashState
       (λ t. subst (λ (u : Trace). Extends (outside old).trace u) (sym (trace t)) (extends_read (outside old).trace at asked bytes))
       (λ t. ap (λ (u : Trace). u.written) (trace t))
       image anchor no_more time told
-
-  -- some calls, and others after them
-  pub reads_then : (old mid new : D) → OnlyReads outside crash_states old mid → OnlyReads outside crash_states mid new → OnlyReads outside crash_states old new
-  reads_then old mid new first then = record {
-    grows = λ t. extends_along (outside old).trace (outside mid).trace (outside new).trace (first.grows t) (then.grows (subst IsTrue (sym first.tells) t));
-    written = λ t. then.written (subst IsTrue (sym first.tells) t) ∙ first.written t;
-    anchor = λ t. then.anchor (subst IsTrue (sym first.tells) t) ∙ first.anchor t;
-    image = λ h. then.image (subst IsTrue (sym first.honest) h) ∙ first.image h;
-    left =
-        let before = now outside crash_states old in
-        let after : LeavesOnly outside crash_states mid new before = record {
-          later = then.left.later;
-          each = λ i a left. first.left.each i a (counts mid (outside old).clock (outside mid).clock i a first.left.later (omega arith) (then.left.each i a left));
-          before = then.left.before;
-          keeps = then.left.keeps;
-        } in
-        goes_on_by outside crash_states counts old mid new before first.left after;
-    tells = then.tells ∙ first.tells;
-    honest = then.honest ∙ first.honest;
-    faults = omega (arith, first.faults, then.faults);
-  }
 
   -- An anchor that was settled is so behind them.
   pub reads_settled : (old new : D) → OnlyReads outside crash_states old new → IsSettled outside crash_states old → IsSettled outside crash_states new

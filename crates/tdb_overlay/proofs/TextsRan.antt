@@ -1,5 +1,5 @@
 -- Which texts runs of calls write, one after another.
-use Rattle.std.proofs.Common.{◌≡◌, ◌⊎◌, inl, inr, ⊎_elim, ℕ, ◌+◌, ◌≤◌, List, [], ◌∷◌, ◌++◌, refl, sym, ◌∙◌, ap, subst, append-nil, append_assoc, arith}
+use Rattle.std.proofs.Common.{◌≡◌, inl, inr, ⊎_elim, ℕ, ◌≤◌, List, ◌++◌, sym, ◌∙◌, ap, subst, append_assoc, arith}
 use Rattle.sha2.specs.Sha256.{sha256}
 use Rattle.tdb_base.specs.Trace.{Extends, WrittenPiece}
 use Rattle.tdb_mark.specs.declared.commit.Commit.{Commit}
@@ -10,7 +10,6 @@ use Rattle.tdb_platform.specs.Outside.{Anchor, Outside, Rose}
 use Rattle.tdb_overlay.specs.Found.{Store}
 use Rattle.tdb_overlay.specs.Log.{IsLog}
 use Rattle.tdb_overlay.specs.Ran.{CountsOn, EachHasLog, EachNewText, EndsBehind, FromLeft, IsFront, Leads, WritesTexts}
-use Rattle.tdb_overlay.specs.StoreState.{StoreState}
 use Rattle.tdb_overlay.proofs.PutLogs.{log_still}
 
 -- no text is new in the same trace

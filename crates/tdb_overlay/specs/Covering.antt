@@ -9,15 +9,14 @@ use Rattle.tdb_base.specs.declared.suite.Suite.{Suite}
 use Rattle.tdb_base.specs.declared.suite.Suite.TheVariants.{Plain, Aes128, Aes256}
 use Rattle.tdb_list.specs.declared.entry.Entry.{Entry}
 use Rattle.tdb_model.specs.State.{State, Partition}
-use Rattle.tdb_seal.specs.SealedRecord.{IsSealedRecord}
 use Rattle.tdb_overlay.specs.Found.{Finds}
-use Rattle.tdb_overlay.specs.Keys.{partition_key}
+use Rattle.tdb_overlay.specs.Trees.{HasChunk, IsRecordOfChunk, tree_of}
 
 -- The ranks that were changed: the record of a chunk that was written, and none for one that was freed.
 abbrev pub Edits : Type 0
 Edits = FinMap nat_cmp (Option Piece)
 
--- what is told of a partition, and its changed ranks
+-- what is told of a partition, the root of its tree at the last checkpoint, and the ranks that were changed since
 pub record Covered : Type 0 where
   pub suite : Suite
   pub home : ℕ
@@ -25,6 +24,7 @@ pub record Covered : Type 0 where
   pub next : ℕ
   pub parent : ℕ
   pub born : ℕ
+  pub root : Option Piece
   pub edits : Edits
 
 -- the partitions by their numbers
@@ -47,7 +47,7 @@ cover_written rank piece p = record p { next = max p.next (rank + 1); edits = in
 abbrev pub cover_freed : ℕ → Covered → Covered
 cover_freed rank p = record p { edits = insert p.edits rank None }
 
--- A partition that is made is its own home, is born at the count, and has no rank that was changed.
+-- A partition that is made is its own home, is born at the count, and has no tree and no rank that was changed.
 abbrev pub cover_made : ℕ → Entry → Covered
 cover_made count e = record {
   suite = suite_numbered e.suite;
@@ -56,11 +56,11 @@ cover_made count e = record {
   next = 0;
   parent = 0;
   born = count;
-  edits
-      = empty;
+  root = None;
+  edits = empty;
 }
 
--- A copy has all of its source. The source is its parent, and it is born at the count.
+-- A copy has all of its source, its tree too. The source is its parent, and it is born at the count.
 abbrev pub cover_copied : ℕ → ℕ → Covered → Covered
 cover_copied count from p = record p { parent = from; born = count }
 
@@ -83,19 +83,13 @@ abbrev pub noted_all : ℕ → Covers → List Entry → Covers
 noted_all count covers [] = covers
 noted_all count covers (e ∷ entries) = noted_all count (noted count covers e) entries
 
--- the piece is the record of a chunk of the partition
-pub record IsRecordOfChunk (finds : Finds) (secret : List ℕ) (p : Partition) (rank : ℕ) (piece : Piece) (bytes : List ℕ) : Type 0 where
-  pub sealed : List ℕ
-  pub found : finds piece sealed
-  pub opened : IsSealedRecord (partition_key secret p.home p.birth)
-      (record { kind = 1; suite = p.suite; home = p.home; rank = rank }) bytes sealed
-
--- The state has a chunk where a record is told, with that record's bytes, and nowhere else.
-abbrev pub IsCoveredChunk : Finds → List ℕ → Partition → ℕ → Option (Option Piece) → Option (List ℕ) → Type 0
-IsCoveredChunk finds secret p rank (Some (Some piece)) (Some bytes) = IsRecordOfChunk finds secret p rank piece bytes
-IsCoveredChunk finds secret p rank (Some (Some piece)) None = ⊥
-IsCoveredChunk finds secret p rank (Some None) chunk = chunk ≡ None
-IsCoveredChunk finds secret p rank None chunk = chunk ≡ None
+-- The state has a chunk where a record is told, with that record's bytes. Where nothing is told it is as in the tree
+-- of the last checkpoint.
+abbrev pub IsCoveredChunk : Finds → List ℕ → Option Piece → Partition → ℕ → Option (Option Piece) → Option (List ℕ) → Type 0
+IsCoveredChunk finds secret root p rank (Some (Some piece)) (Some bytes) = IsRecordOfChunk finds secret p rank piece bytes
+IsCoveredChunk finds secret root p rank (Some (Some piece)) None = ⊥
+IsCoveredChunk finds secret root p rank (Some None) chunk = chunk ≡ None
+IsCoveredChunk finds secret root p rank None chunk = HasChunk finds secret (tree_of secret p.suite p.home p.birth root) p rank chunk
 
 -- What is told of a partition is what the state has of it.
 pub record IsCoveredPartition (finds : Finds) (secret : List ℕ) (c : Covered) (p : Partition) : Type 0 where
@@ -105,7 +99,7 @@ pub record IsCoveredPartition (finds : Finds) (secret : List ℕ) (c : Covered) 
   pub next : c.next ≡ p.next
   pub parent : c.parent ≡ p.parent
   pub born : c.born ≡ p.born
-  pub chunks : (rank : ℕ) → IsCoveredChunk finds secret p rank (get c.edits rank) (get p.chunks rank)
+  pub chunks : (rank : ℕ) → IsCoveredChunk finds secret c.root p rank (get c.edits rank) (get p.chunks rank)
 
 -- so it is of a number, under which both have a partition or neither has one
 abbrev pub IsCoveredAt : Finds → List ℕ → Option Covered → Option Partition → Type 0
@@ -114,6 +108,6 @@ IsCoveredAt finds secret None None = Unit {0}
 IsCoveredAt finds secret (Some c) None = ⊥
 IsCoveredAt finds secret None (Some p) = ⊥
 
--- The covers tell the state, where the last checkpoint had no partition.
+-- The covers tell the state.
 abbrev pub IsCovering : Finds → List ℕ → Covers → State → Type 0
 IsCovering finds secret covers state = (part : ℕ) → IsCoveredAt finds secret (get covers part) (get state part)

@@ -4,7 +4,6 @@ pub mod Covering
 pub mod Found
 pub mod Growth
 pub mod Images
-pub mod Intact
 pub mod KeptKeys
 pub mod Keys
 pub mod LaidPieces
@@ -16,11 +15,14 @@ pub mod NextText
 pub mod Placement
 pub mod Ran
 pub mod Reading
+pub mod ReadsJoin
 pub mod Recovered
 pub mod Required
 pub mod RequiredPlaces
 pub mod Reserving
+pub mod Roster
 pub mod SealedOnly
 pub mod Sound
 pub mod StoreState
+pub mod Trees
 pub mod WellFormedLog

@@ -17,7 +17,7 @@ use Rattle.tdb_platform.specs.Outside.{Anchor}
 use Rattle.tdb_seg.specs.SegmentSpace.{IsPlacedIn}
 use Rattle.tdb_seg.specs.TableSpace.{table_space}
 use Rattle.tdb_overlay.specs.Changes.{HasChanges, HasTable, named_records}
-use Rattle.tdb_overlay.specs.CheckpointState.{IsReached, IsTreeState}
+use Rattle.tdb_overlay.specs.CheckpointState.{IsNarrow, IsReached, IsTreeState}
 use Rattle.tdb_overlay.specs.Found.{Finds, Store, in_trace}
 use Rattle.tdb_overlay.specs.StoreState.{StoreState, commit_fits, commit_on, first_state}
 
@@ -60,19 +60,22 @@ pub record IsCommitOn (finds : Finds) (store : Store) (before : StoreState) (c :
   pub owned : AreOwned c.count before.chunks list.entries changes
   pub placed : commit_fits store before changes ≡ Ok (map (λ piece. piece.place) (named_records list.entries ++ c.first ∷ []), after.space)
 
--- The text of a checkpoint, after a state of the store: its root tells that state. Its table has as many segments as there were, where
--- there was a text before, and tells the segments from here on, with their tail behind the table. The table, and each piece that the
--- root reaches, was placed in them.
+-- The text of a checkpoint, after a state of the store: its root tells that state, by a roster of 4,096 numbers. Its table has
+-- as many segments as there were, where there was a text before, and tells the segments from here on, with their tail behind the
+-- table. The table, and each piece that the root reaches, was placed in them, no two at one place.
 pub record IsCheckpointOn (finds : Finds) (store : Store) (before : StoreState) (c : Commit) (after : StoreState) : Type 0 where
   pub kind : c.kind ≡ 2
   pub next : c.count ≡ before.count + 1
   pub segments : (before.count ≡ 0) ⊎ (c.segments ≡ before.space.segments)
   pub table : HasTable finds store.secret c
   pub tree : IsTreeState finds store c.root before.chunks
+  pub narrow : IsNarrow finds store c.root
   pub after_is : after
       ≡ record { count = c.count; base = c.count; space = table_space table.table (end_of c.first); chunks = before.chunks }
   pub placed : (piece : Piece) → (piece ≡ c.first) ⊎ IsReached finds store c.root piece
       → IsPlacedIn after.space piece.place.0 piece.length
+  pub apart : (p q : Piece) → (p ≡ c.first) ⊎ IsReached finds store c.root p → (q ≡ c.first) ⊎ IsReached finds store c.root q
+      → p.place ≡ q.place → p ≡ q
 
 -- what a text adds to the history: a checkpoint nothing, a commit its count and its changes
 abbrev pub Adds : Finds → Store → StoreState → Commit → History → StoreState → Type 0

@@ -1,6 +1,6 @@
 -- What the change lists say of a partition, and of one rank. A partition that isn't there has no rank that was changed.
 use Rattle.std.specs.Prelude.{◌≤◌, ℕ, List, map, Option, Some, None}
-use Rattle.std.specs.FinMap.{entries, get}
+use Rattle.std.specs.FinMap.{empty, entries, get}
 use Rattle.std.specs.Option.{option_and_then}
 use Rattle.tdb_base.specs.declared.names.PartId.{PartId}
 use Rattle.tdb_base.specs.declared.piece.Piece.{Piece}
@@ -12,7 +12,20 @@ use Rattle.tdb_overlay.specs.declared.overlay.Seen.TheVariants.{Base, Gone, Here
 
 -- what is told of a partition
 abbrev pub leader_of : Covered → Leader
-leader_of p = record { suite = p.suite; home = p.home; birth = p.birth; next = p.next; parent = p.parent; born = p.born }
+leader_of p = record { suite = p.suite; home = p.home; birth = p.birth; next = p.next; parent = p.parent; born = p.born; root = p.root }
+
+-- a partition of which that is told, and no rank was changed
+abbrev pub cover_told : Leader → Covered
+cover_told l = record {
+  suite = l.suite;
+  home = l.home;
+  birth = l.birth;
+  next = l.next;
+  parent = l.parent;
+  born = l.born;
+  root = l.root;
+  edits = empty;
+}
 
 -- the numbers of a partition's key are in range: its home is one of the 4,095 partitions, and its birth the count of a commit
 abbrev pub NamesKey : Leader → Type 0

@@ -1,5 +1,5 @@
 -- The partitions that ordered maps in memory stand for.
-use Rattle.std.specs.Prelude.{ℕ, List, refl}
+use Rattle.std.specs.Prelude.{ℕ, List, Option, refl}
 use Rattle.std.specs.BTreeMap.{BTreeMap}
 use Rattle.std.specs.Coded.{Coded, coded_ℕ, coded_list, coded_option, coded×, code_by}
 use Rattle.std.specs.FinMap.{code}
@@ -18,6 +18,7 @@ covered_of p = record {
   next = p.leader.next;
   parent = p.leader.parent;
   born = p.leader.born;
+  root = p.leader.root;
   edits = seen_as (λ piece. piece) p.edits;
 }
 
@@ -36,9 +37,10 @@ abbrev pub coded_edits : Coded Edits
 coded_edits = code coded_ℕ (coded_option coded_piece)
 
 abbrev pub coded_covered : Coded Covered
-coded_covered = code_by (Suite × ((ℕ × ℕ) × ((ℕ × ℕ) × (ℕ × Edits))))
-    (coded× coded_suite (coded× (coded× coded_ℕ coded_ℕ) (coded× (coded× coded_ℕ coded_ℕ) (coded× coded_ℕ coded_edits))))
-    (λ p. (p.suite, ((p.home, p.birth), ((p.next, p.parent), (p.born, p.edits)))))
+coded_covered = code_by (Suite × ((ℕ × ℕ) × ((ℕ × ℕ) × (ℕ × (Option Piece × Edits)))))
+    (coded× coded_suite (coded× (coded× coded_ℕ coded_ℕ) (coded× (coded× coded_ℕ coded_ℕ) (coded× coded_ℕ (coded× (coded_option coded_piece)
+    coded_edits)))))
+    (λ p. (p.suite, ((p.home, p.birth), ((p.next, p.parent), (p.born, (p.root, p.edits))))))
     (λ t. record {
       suite = t.0;
       home = t.1.0.0;
@@ -46,8 +48,8 @@ coded_covered = code_by (Suite × ((ℕ × ℕ) × ((ℕ × ℕ) × (ℕ × Edit
       next = t.1.1.0.0;
       parent = t.1.1.0.1;
       born = t.1.1.1.0;
-      edits
-          = t.1.1.1.1;
+      root = t.1.1.1.1.0;
+      edits = t.1.1.1.1.1;
     })
     (λ _. refl)
 

@@ -1,6 +1,11 @@
 -- Calls that only read: they write nothing and leave the anchor.
-use Rattle.std.specs.Prelude.{◌≡◌, ◌≤◌, IsTrue, List, ◌++◌}
+use Rattle.std.specs.Prelude.{◌≡◌, ℕ, ◌≤◌, IsTrue, List, ◌++◌, drop, take}
+use Rattle.std.specs.List.{AllByRecursion}
 use Rattle.tdb_base.specs.Trace.{Extends, ReadPiece}
+use Rattle.sha2.specs.Sha256.{sha256}
+use Rattle.tdb_map.specs.Nodes.{Texts}
+use Rattle.tdb_map.specs.Shown.{Shown}
+use Rattle.tdb_mark.specs.Unforged.{WasRead}
 use Rattle.tdb_platform.specs.Outside.{Outside}
 use Rattle.tdb_platform.specs.CrashStates.{CrashStates, LeavesOnly, now}
 
@@ -19,3 +24,20 @@ pub record OnlyReads {D : Type 0} (outside : D → Outside) (crash_states : D �
 pub record HasRead (old new : Outside) : Type 0 where
   pub more : List ReadPiece
   pub read : new.trace.read ≡ old.trace.read ++ more
+
+-- so many bytes of an image at a place, or fewer where it ends before
+abbrev pub held : List ℕ → ℕ → ℕ → List ℕ
+held image at length = take length (drop at image)
+
+-- Each read between two moments of an honest device gave what its image had.
+abbrev pub ReadsImage : Outside → Outside → Type 0
+ReadsImage old new = IsTrue old.honest → IsTrue old.tells → (reads : HasRead old new)
+    × AllByRecursion (λ r. r.bytes ≡ held old.image r.place r.asked) reads.more
+
+-- what it tells to those who read trees
+abbrev pub shown_of : Outside → Shown
+shown_of o = record { tells = o.tells; read = o.trace.read; faults = o.faults }
+
+-- the texts that digests are known to lead to by what it read
+abbrev pub known_texts : Outside → Texts
+known_texts o digest bytes = (sha256 bytes ≡ digest) × (IsTrue o.tells → WasRead o.trace.read bytes)

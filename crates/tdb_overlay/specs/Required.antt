@@ -11,7 +11,7 @@ use Rattle.tdb_mark.specs.CommitText.{commit_key_of, commit_of, commit_text}
 use Rattle.tdb_model.specs.declared.change.Change.{Change}
 use Rattle.tdb_platform.specs.Outside.{Anchor}
 use Rattle.tdb_overlay.specs.Changes.{HasChanges, named_records}
-use Rattle.tdb_overlay.specs.CheckpointState.{IsReached}
+use Rattle.tdb_overlay.specs.CheckpointState.{IsOfRoster, IsReached}
 use Rattle.tdb_overlay.specs.Found.{Finds, Store, in_trace, store_of_text}
 
 -- a commit's text as a piece: 256 bytes in the slot of its count
@@ -55,11 +55,12 @@ pub record IsRequired (written : List WrittenPiece) (store : Store) (anchor : An
   pub since_base : base_of chain ≤ text.count
   pub rests : RestsOn (in_trace written) store.secret text piece
 
--- A piece that opening the log of an anchor reads: such a text itself, or the table or the list that it names, and no
--- record of a chunk.
+-- A piece that opening the log of an anchor reads: such a text itself, the table or the list that it names, or a node or a leader
+-- of its roster, and no node of a leader's tree and no record of a chunk.
 pub record IsOpeningPiece (written : List WrittenPiece) (store : Store) (anchor : Anchor) (piece : Piece) : Type 0 where
   pub required : IsRequired written store anchor piece
   pub of_text : (piece ≡ text_piece store.secret required.text) ⊎ (piece ≡ required.text.first)
+      ⊎ IsOfRoster (in_trace written) (store_of_text store.secret required.text) required.text.root piece
 
 -- a read that was asked for the whole piece at its place
 abbrev pub IsReadOf : Piece → ReadPiece → Type 0

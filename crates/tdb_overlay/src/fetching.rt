@@ -7,7 +7,7 @@ ghost use Rattle.tdb_base.specs.declared.piece.Damage.{Damage};
 ghost use Rattle.tdb_platform.specs.Outside.{Rose};
 ghost use Rattle.tdb_overlay.specs.Growth.{IsSettled};
 ghost use Rattle.tdb_overlay.specs.Images.{StandsIn};
-ghost use Rattle.tdb_overlay.specs.Reading.{OnlyReads};
+ghost use Rattle.tdb_overlay.specs.Reading.{OnlyReads, held};
 
 use sha2::{Digest as _, Sha256};
 use std::alloc::Global;
@@ -42,10 +42,13 @@ pub fn fetch<P: Platform>(
         ≡ with_read (P.outside platform.old).trace piece.now.place.0 piece.now.length bytes.items) }
     ensures digest { IfOk result (λ bytes. sha256 bytes.items ≡ piece.now.digest.0) }
     ensures tampered { (damage : Damage) → result ≡ Err (FetchError.Tampered damage) → (damage.place ≡ piece.now.place)
-        × (damage.expected ≡ piece.now.digest)
-        × (IsTrue (P.outside platform.old).tells → (bytes : List ℕ)
-        × ((P.outside platform.new).trace ≡ with_read (P.outside platform.old).trace piece.now.place.0 piece.now.length bytes)
-        × (sha256 bytes ≡ damage.found.0) × (damage.found ≢ piece.now.digest)) }
+        × (damage.expected ≡ piece.now.digest) × ((bytes : List ℕ) × (sha256 bytes ≡ damage.found.0) × (damage.found ≢ piece.now.digest)
+        × (IsTrue (P.outside platform.old).tells
+        → (P.outside platform.new).trace ≡ with_read (P.outside platform.old).trace piece.now.place.0 piece.now.length bytes)
+        × (IsTrue (P.outside platform.old).honest → bytes ≡ held (P.outside platform.old).image piece.now.place.0 piece.now.length)) }
+    // an honest device shows what it has
+    ensures held { IsTrue (P.outside platform.old).honest
+        → IfOk result (λ bytes. bytes.items ≡ held (P.outside platform.old).image piece.now.place.0 piece.now.length) }
     ensures fault { result ≡ Err FetchError.Fault → Rose (P.outside platform.old).faults (P.outside platform.new).faults }
     // an honest device tells no damage where the piece stands
     ensures stands { IsTrue (P.outside platform.old).honest → StandsIn (P.outside platform.old).image piece.now → (damage : Damage)

@@ -4,12 +4,15 @@ ghost use Rattle.tdb_mark.specs.CommitText.{commit_key_of};
 ghost use Rattle.tdb_seal.specs.SealedRecord.{IsSealedRecord};
 ghost use Rattle.tdb_seal.specs.declared.record.SealError.TheVariants.{Form};
 ghost use Rattle.tdb_overlay.specs.Keys.{system_key, partition_key};
+ghost use Rattle.tdb_overlay.specs.Trees.{roster, tree_of};
 
+use crate::overlay::Leader;
 use crate::record_keys::{PartitionKeys, SystemKey};
 use std::alloc::{AllocError, Global};
 use std::marker::Model;
-use tdb_base::PartId;
+use tdb_base::{PartId, Piece, Suite};
 use tdb_mac::PreparedKey;
+use tdb_map::Tree;
 use tdb_mark::commit_key;
 use tdb_seal::{Name, PLAIN_LIMIT, SealError, read_record_with, seal_record_with};
 
@@ -76,6 +79,20 @@ impl Keys {
         ensures form { result ≡ Err Form → (plain : List ℕ) → IsSealedRecord (system_key self.now) name.now plain bytes.now → ⊥ }
     {
         read_record_with(alloc, self.system.under(name.suite), name, bytes)
+    }
+
+    /// The roster of a checkpoint, by its root. Its nodes have the suite of the store.
+    pub fn roster(&self, suite: Suite, root: Option<Piece>) -> Tree
+        ensures { result ≡ roster (record { secret = self.now; suite = suite }) root }
+    {
+        self.partitions.roster(suite, root)
+    }
+
+    /// The tree of a partition at the last checkpoint.
+    pub fn tree(&self, leader: &Leader) -> Tree
+        ensures { result ≡ tree_of self.now leader.now.suite leader.now.home leader.now.birth leader.now.root }
+    {
+        self.partitions.tree(leader)
     }
 
     /// The record of a plain text of the partition with a number, whose home the name has, and which the commit with the

@@ -11,6 +11,7 @@ mod kept;
 mod keys;
 mod laws;
 mod overlay;
+mod pieces;
 mod record_keys;
 mod recovered;
 mod runs;
@@ -22,5 +23,6 @@ pub use laws::{
     placing_spares_required,
 };
 pub use overlay::{Leader, Overlay, Reserved, Seen};
+pub use pieces::DevicePieces;
 pub use recovered::Recovered;
 pub use runs::{put_is_a_step, runs_join, runs_keep};

@@ -4,10 +4,12 @@ ghost use Rattle.std.specs.FinMap as map;
 ghost use Rattle.std.specs.Option.{option_map};
 ghost use Rattle.tdb_list.specs.ChangeList.{IsList};
 ghost use Rattle.tdb_list.specs.Entry.{IsEntry};
-ghost use Rattle.tdb_overlay.specs.Covering.{no_covers, suite_numbered, cover_written, cover_freed, cover_copied, cover_made, with_cover, noted, noted_all};
-ghost use Rattle.tdb_overlay.specs.Lookup.{NamesKey, info_told, infos_told, leader_of, seen_in, seen_at};
+ghost use Rattle.tdb_overlay.specs.Covering.{no_covers, suite_numbered, cover_written, cover_freed, cover_copied};
+ghost use Rattle.tdb_overlay.specs.Covering.{cover_made, with_cover, noted, noted_all};
+ghost use Rattle.tdb_overlay.specs.Lookup.{NamesKey, cover_told, info_told, infos_told, leader_of, seen_in, seen_at};
 ghost use Rattle.tdb_overlay.specs.Memory.{covered_of};
 ghost use Rattle.tdb_overlay.specs.Reserving.{IsReserved};
+ghost use Rattle.tdb_overlay.specs.Roster.{kept_of};
 
 use crate::kept::KeptPartition;
 use std::alloc::{AllocError, Global};
@@ -42,6 +44,8 @@ pub struct Leader {
     pub parent: u32,
     /// The count of the commit that made or copied it.
     pub born: u64,
+    /// The root of its tree at the last checkpoint, if it had one with a chunk.
+    pub root: Option<Piece>,
 }
 
 /// What the lists since the last checkpoint say of a rank.
@@ -113,6 +117,21 @@ impl Model for Partitions {
 }
 
 impl Leader {
+    /// What is kept of the leader that a checkpoint wrote.
+    pub fn kept(leader: &tdb_node::Leader) -> Leader
+        ensures { result ≡ kept_of leader.now }
+    {
+        Leader {
+            suite: leader.suite,
+            home: leader.home,
+            birth: leader.birth,
+            next: leader.next,
+            parent: leader.parent,
+            born: leader.born,
+            root: leader.root,
+        }
+    }
+
     /// What is told of a partition under its number.
     fn info(&self, part: PartId) -> PartInfo
         ensures { result ≡ info_told part self.now }
@@ -215,6 +234,15 @@ impl Overlay {
     {
         self.spare = None;
         self.current.note(alloc, count, entries)
+    }
+
+    /// Tells of a partition what its leader says. No rank of it was changed.
+    pub fn tell(&mut self, alloc: Global, part: PartId, leader: &Leader) -> Result<(), AllocError>
+        requires named { NamesKey leader.now }
+        ensures { OnOk result (self.new ≡ map.insert self.old part.0 (cover_told leader.now)) }
+    {
+        self.spare = None;
+        self.current.tell(alloc, part.0, leader)
     }
 
     /// Takes all the memory that the list of a commit with this count needs, and nothing of the list yet.
@@ -418,10 +446,23 @@ impl Partitions {
                 next: 0,
                 parent: 0,
                 born: count,
+                root: None,
             },
             edits: BTreeMap::new(alloc),
         };
         self.by_number.insert(entry.part, partition)?;
+        Ok(())
+    }
+
+    fn tell(&mut self, alloc: Global, part: u32, leader: &Leader) -> Result<(), AllocError>
+        requires named { NamesKey leader.now }
+        ensures { OnOk result (self.new ≡ map.insert self.old part (cover_told leader.now)) }
+    {
+        let partition = KeptPartition {
+            leader: *leader,
+            edits: BTreeMap::new(alloc),
+        };
+        self.by_number.insert(part, partition)?;
         Ok(())
     }
 

@@ -4,12 +4,15 @@ ghost use Rattle.tdb_seal.specs.SealedRecord.{IsSealedRecord};
 ghost use Rattle.tdb_seal.specs.declared.record.SealError.TheVariants.{Form};
 ghost use Rattle.tdb_overlay.specs.Keys.{system_key, partition_key};
 ghost use Rattle.tdb_overlay.specs.KeptKeys.{IsOf};
+ghost use Rattle.tdb_overlay.specs.Trees.{roster, tree_of};
 
+use crate::overlay::Leader;
 use std::alloc::{AllocError, Global};
 use std::collections::BTreeMap;
 use std::marker::Model;
-use tdb_base::{PartId, Suite};
+use tdb_base::{PartId, Piece, Suite};
 use tdb_mac::derive;
+use tdb_map::Tree;
 use tdb_seal::{Name, PLAIN_LIMIT, RecordKey, SealError, read_record_with, seal_record_with};
 
 /// The key of the records of the system, prepared for each suite: which of them the store has, its texts tell later.
@@ -94,6 +97,35 @@ impl PartitionKeys {
         PartitionKeys {
             secret: *secret,
             by_number: BTreeMap::new(alloc),
+        }
+    }
+
+    /// The roster with this root, under the key of the system.
+    pub(crate) fn roster(&self, suite: Suite, root: Option<Piece>) -> Tree
+        ensures { result ≡ roster (record { secret = self.now; suite = suite }) root }
+    {
+        Tree {
+            root,
+            key: derive(&self.secret, b"TDBsystm", 0, 0),
+            suite,
+            home: 0,
+        }
+    }
+
+    /// The tree of a partition, under its key.
+    pub(crate) fn tree(&self, leader: &Leader) -> Tree
+        ensures { result ≡ tree_of self.now leader.now.suite leader.now.home leader.now.birth leader.now.root }
+    {
+        Tree {
+            root: leader.root,
+            key: derive(
+                &self.secret,
+                b"TDBpartn",
+                u64::from(leader.home),
+                leader.birth,
+            ),
+            suite: leader.suite,
+            home: leader.home,
         }
     }
 

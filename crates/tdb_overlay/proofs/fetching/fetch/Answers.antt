@@ -8,6 +8,7 @@ use Rattle.tdb_base.specs.declared.piece.Damage.{Damage}
 use Rattle.tdb_base.specs.declared.piece.Digest.{Digest}
 use Rattle.tdb_base.specs.Trace.{with_read}
 use Rattle.tdb_overlay.proofs.ReadingLaws.{reads_nothing, reads_none, reads_one, shows_held}
+use Rattle.tdb_overlay.specs.Reading.{held}
 use Rattle.tdb_overlay.proofs.fetching.fetch.Goals as goal
 
 pub returns-then-eq-clause-digest : goal.returns-then-eq-clause-digest
@@ -42,9 +43,11 @@ returns-else-eq-clause-tampered g c damage is =
     let differs : found ≡ piece.digest → ⊥ = λ e. false≢true (c.if-eq.ensures ∙ (bytes_eq-Decides c.digest.result piece.digest.0).1 (ap (λ (d : Digest). d.0) e)) in
     let hashed : sha256 bytes ≡ found.0 = sym (c.digest.ensures ∙ ap sha256 c.as_slice.ensures.value) in
     let read : IsTrue (outside c.args.platform.now).tells → (outside c.read.new.self).trace ≡ with_read (outside c.args.platform.now).trace piece.place.0 piece.length bytes = grind (arith, common_steps) in
-    subst (λ (d : Damage). (d.place ≡ piece.place) × (d.expected ≡ piece.digest)
-    × (IsTrue (outside c.args.platform.now).tells → (b : List ℕ) × ((outside c.read.new.self).trace ≡ with_read (outside c.args.platform.now).trace piece.place.0 piece.length b) × (sha256 b ≡ d.found.0) × (d.found ≢ piece.digest)))
-    same (refl, refl, λ t. (bytes, read t, hashed, differs))
+    subst (λ (d : Damage). (d.place ≡ piece.place) × (d.expected ≡ piece.digest) × ((b : List ℕ) × (sha256 b ≡ d.found.0)
+    × (d.found ≢ piece.digest) × (IsTrue (outside c.args.platform.now).tells
+    → (outside c.read.new.self).trace ≡ with_read (outside c.args.platform.now).trace piece.place.0 piece.length b)
+    × (IsTrue (outside c.args.platform.now).honest → b ≡ held (outside c.args.platform.now).image piece.place.0 piece.length)))
+    same (refl, refl, (bytes, hashed, differs, read, λ honest. (let given = c.in-Ok-read.ensures.piece honest in grind (arith, common_steps))))
 
 pub returns-else-eq-clause-stands : goal.returns-else-eq-clause-stands
 returns-else-eq-clause-stands g c honest stands damage is =

@@ -9,4 +9,4 @@ returns c =
     let old = c.args.self.now in
     let edits : seen_as (λ piece. piece) c.insert.new.self ≡ insert (seen_as (λ piece. piece) old.edits) c.args.rank None =
     seen_inserted (λ piece. piece) old.edits c.insert.new.self c.args.rank None c.in_ok-insert.ensures.updates in
-    λ i. record { suite = old.leader.suite; home = old.leader.home; birth = old.leader.birth; next = old.leader.next; parent = old.leader.parent; born = old.leader.born; edits = edits i }
+    λ i. record { suite = old.leader.suite; home = old.leader.home; birth = old.leader.birth; next = old.leader.next; parent = old.leader.parent; born = old.leader.born; root = old.leader.root; edits = edits i }

@@ -10,4 +10,4 @@ returns c =
     let next : c.max-self.result ≡ max old.leader.next (c.args.rank + 1) = search rules in
     let edits : seen_as (λ piece. piece) c.insert.new.self ≡ insert (seen_as (λ piece. piece) old.edits) c.args.rank (Some c.args.piece) =
     seen_inserted (λ piece. piece) old.edits c.insert.new.self c.args.rank (Some c.args.piece) c.in_ok-insert.ensures.updates in
-    λ i. record { suite = old.leader.suite; home = old.leader.home; birth = old.leader.birth; next = next i; parent = old.leader.parent; born = old.leader.born; edits = edits i }
+    λ i. record { suite = old.leader.suite; home = old.leader.home; birth = old.leader.birth; next = next i; parent = old.leader.parent; born = old.leader.born; root = old.leader.root; edits = edits i }
