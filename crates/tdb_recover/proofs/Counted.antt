@@ -1,9 +1,7 @@
 -- How many pieces were read, one part after another.
-use Rattle.std.proofs.Common.{◌≡◌, ⊎_elim, ℕ, ◌+◌, ◌-◌, ◌*◌, ◌<◌, ◌≤◌, ◌==◌, Bool, true, false, cond, List, [], ◌∷◌, ◌++◌, length}
-use Rattle.std.proofs.Common.{get_or, take, IsTrue, refl, sym, ◌∙◌, ap, subst, arith}
-use Rattle.std.proofs.lemmas.Bool.{cases_lt}
+use Rattle.std.proofs.Common.{◌≡◌, ℕ, ◌+◌, ◌<◌, ◌≤◌, ◌==◌, Bool, true, false, cond, List, [], ◌∷◌, ◌++◌, length}
+use Rattle.std.proofs.Common.{get_or, take, IsTrue, refl, sym, ap, subst, arith}
 use Rattle.std.proofs.lemmas.List.{length-append}
-use Rattle.tdb_append.specs.declared.head.Head.{Head}
 use Rattle.tdb_base.specs.declared.piece.Damage.{Damage}
 use Rattle.tdb_base.specs.declared.piece.Piece.{Piece}
 use Rattle.tdb_base.specs.Trace.{Trace, ReadPiece, calls_in, with_read}
@@ -16,7 +14,7 @@ use Rattle.tdb_overlay.specs.declared.fetching.FetchError.{FetchError}
 use Rattle.tdb_overlay.specs.declared.fetching.FetchError.TheVariants.{Tampered, Fault, Memory}
 use Rattle.tdb_overlay.specs.declared.recovered.Recovered.{Recovered}
 use Rattle.tdb_overlay.specs.Reading.{OnlyReads}
-use Rattle.tdb_recover.specs.Ahead.{HasSeen, IsMemberList, MayFollow}
+use Rattle.tdb_recover.specs.Ahead.{HasSeen, IsMemberList}
 use Rattle.tdb_recover.specs.Reads.{ReadsAtMost}
 use Rattle.tdb_recover.proofs.ReadingAhead.{AllShown, named_from}
 
@@ -51,10 +49,6 @@ most_failed old new at asked Memory tampered fault memory = most_none 1 old new 
 
 pub most_as : (m n : ℕ) (old new : Outside) → m ≤ n → ReadsAtMost m old new → ReadsAtMost n old new
 most_as m n old new fewer most t more is = omega (arith, fewer, most t more is)
-
--- nothing more was read
-pub most_same : (n : ℕ) (old mid new : Outside) → ReadsAtMost n old mid → (IsTrue old.tells → new.trace ≡ mid.trace) → ReadsAtMost n old new
-most_same n old mid new most same t more is = most t more (ap (λ (u : Trace). u.read) (sym (same t)) ∙ is)
 
 -- some calls, and others after them
 pub most_then : {D : Type 0} (outside : D → Outside) (crash_states : D → CrashStates) (m n most : ℕ) (old mid new : D) → m + n ≤ most
@@ -113,16 +107,3 @@ shown_before entries i d reads below kind shown =
     let few = shown_few (named_records (take i entries)) reads shown in
     let piece = (get_or entries i d).piece in
     omega (arith, few, ap length rest.1, length-append (named_records (take i entries)) (piece ∷ rest.0))
-
--- A log was opened, and it was read ahead of it. Where that reads anything, the log has at most 999 commits since the last checkpoint.
-pub most_opened : {D : Type 0} (outside : D → Outside) (crash_states : D → CrashStates) (head : Head) (old mid new : D)
-    → head.count ≤ head.base + 1000 → OnlyReads outside crash_states old mid → OnlyReads outside crash_states mid new
-    → ReadsAtMost (2 * (head.count - head.base) + 2) (outside old) (outside mid) → ReadsAtMost 1026 (outside mid) (outside new)
-    → ((MayFollow head → ⊥) → ReadsAtMost 0 (outside mid) (outside new)) → ReadsAtMost 3026 (outside old) (outside new)
-most_opened outside crash_states head old mid new counts first then opening ahead none =
-    let n = 2 * (head.count - head.base) + 2 in
-    ⊎_elim
-    (λ few. most_then outside crash_states n 1026 3026 old mid new (omega (arith, few)) first then opening ahead)
-    (λ full. most_then outside crash_states n 0 3026 old mid new (omega (arith, counts)) first then opening
-    (none (λ may. let few = may.few in omega (arith, few, full))))
-    (cases_lt head.count (head.base + 1000))

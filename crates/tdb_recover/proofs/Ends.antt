@@ -71,7 +71,7 @@ module _ (written : List WrittenPiece) (trace : Trace) (secret : List ℕ) (log 
       since_base = since;
       rests = ⊎_elim (λ text. inl text) (λ first. inr (inl first)) of_text;
     };
-    of_text = of_text;
+    of_text = ⊎_elim (λ text. inl text) (λ first. inr (inl first)) of_text;
   }
 
   -- such a text, by the mark that the chain says

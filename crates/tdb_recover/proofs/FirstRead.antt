@@ -1,5 +1,5 @@
 -- The first read of an opening stays the first one.
-use Rattle.std.proofs.Common.{◌≡◌, List, ℕ, [], ◌∷◌, ◌++◌, Some, Result, Ok, Err, IfOk, refl, sym, ◌∙◌, ap, append_assoc}
+use Rattle.std.proofs.Common.{◌≡◌, List, ℕ, [], ◌∷◌, ◌++◌, Some, Result, Ok, Err, IfOk, refl, ◌∙◌, ap, append_assoc}
 use Rattle.sha2.specs.Sha256.{sha256}
 use Rattle.tdb_append.specs.Put.{slot_place}
 use Rattle.tdb_base.specs.Trace.{Extends, ReadPiece, Trace, with_read}

@@ -3,11 +3,13 @@ pub mod AheadSlot
 pub mod Answering
 pub mod Bases
 pub mod Behind
+pub mod Beside
 pub mod Carrying
 pub mod Composing
 pub mod Counted
 pub mod Ends
 pub mod FirstRead
+pub mod Leaders
 pub mod Noting
 pub mod Only
 pub mod Opened
@@ -16,6 +18,9 @@ pub mod ReadingAhead
 pub mod Reliable
 pub mod Replaying
 pub mod Rest
+pub mod RosterLists
+pub mod RosterNodes
+pub mod Rosters
 pub mod Showing
 pub mod ShownWhole
 pub mod Steps

@@ -28,7 +28,7 @@ use Rattle.tdb_recover.specs.Ahead.{AsksAhead, HasSeen, IsAsShown, MayFollow}
 use Rattle.tdb_recover.specs.Opening.{HasLookedAhead, HasNotRecovered, HasRecovered, HasShownWhole, HasTakenShown, StaysOrTakes}
 use Rattle.tdb_recover.specs.Pending.{IsTaken}
 use Rattle.tdb_recover.specs.Premises.{Premises}
-use Rattle.tdb_recover.specs.Reads.{ReadsAtMost, ReadsOnly}
+use Rattle.tdb_recover.specs.Reads.{ReadsBeside, ReadsOnly}
 use Rattle.tdb_recover.specs.Taking.{HasTaken, IsShownWhole}
 use Rattle.tdb_recover.specs.Unwritten.{IsSure, WritesNothing}
 use Rattle.tdb_recover.specs.declared.ahead.Pending.{Pending}
@@ -122,7 +122,7 @@ module _ {D : Type 0} (outside : D → Outside) (crash_states : D → CrashState
 
     -- It was read ahead of it.
     pub looked : (new : D) (opened : Recovered) (took : Bool) (reads : List ReadPiece) → IsTrue (outside old).tells
-        → WritesNothing outside crash_states mid new → ReadsAtMost 3026 (outside old) (outside new)
+        → WritesNothing outside crash_states mid new → ReadsBeside 3026 4161 (outside old) (outside new)
         → (outside new).trace.read ≡ (outside mid).trace.read ++ reads → AsksAhead secret log reads took
         → ((took ≡ false) × (opened ≡ log)) ⊎ ((took ≡ true) × HasTakenShown secret log reads opened)
         → HasLookedAhead (outside old) (outside new) secret opened

@@ -1,5 +1,7 @@
 -- What the errors of opening a log say.
 use Rattle.tdb_base.specs.declared.piece.Piece.{Piece}
+use Rattle.tdb_map.specs.declared.pieces.PieceError.{PieceError}
+use Rattle.tdb_map.specs.declared.pieces.PieceError as pieces
 use Rattle.tdb_platform.specs.Outside.{Outside, Rose}
 use Rattle.tdb_overlay.specs.declared.fetching.FetchError.{FetchError}
 use Rattle.tdb_overlay.specs.declared.fetching.FetchError as fetching
@@ -12,6 +14,13 @@ abbrev pub open_error_of : FetchError → OpenError
 open_error_of (fetching.TheVariants.Tampered damage) = Tampered damage
 open_error_of fetching.TheVariants.Fault = Fault
 open_error_of fetching.TheVariants.Memory = Memory
+
+-- and one of reading a node of the roster
+abbrev pub open_error_of_piece : PieceError → OpenError
+open_error_of_piece (pieces.TheVariants.Tampered damage) = Tampered damage
+open_error_of_piece (pieces.TheVariants.Form place) = Form place
+open_error_of_piece pieces.TheVariants.Fault = Fault
+open_error_of_piece pieces.TheVariants.Memory = Memory
 
 -- An error in the course of opening comes of the platform only where its faults rose. That there is no log is said before.
 abbrev pub IsCaused : Outside → Outside → OpenError → Type 0

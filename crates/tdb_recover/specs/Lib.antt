@@ -10,6 +10,7 @@ pub mod Premises
 pub mod Reads
 pub mod Records
 pub mod Replay
+pub mod Roster
 pub mod Settled
 pub mod Taking
 pub mod Unwritten

@@ -1,6 +1,6 @@
 -- What opening a log comes to, with the commit that was begun behind it.
 use mathlib.Core.Logic.{inl, inr}
-use Rattle.std.specs.Prelude.{◌≡◌, ◌⊎◌, ◌+◌, ◌≤◌, ℕ, Bool, true, false, List, [], ◌++◌, length}
+use Rattle.std.specs.Prelude.{◌≡◌, ◌⊎◌, ◌+◌, ℕ, Bool, true, false, List, [], ◌++◌}
 use Rattle.std.specs.List.{AllByRecursion}
 use Rattle.sha2.specs.Sha256.{sha256}
 use Rattle.tdb_base.specs.declared.piece.Piece.{Piece}
@@ -19,6 +19,7 @@ use Rattle.tdb_overlay.specs.declared.recovered.Recovered.{Recovered}
 use Rattle.tdb_recover.specs.Ahead.{AsksAhead, IsAsShown}
 use Rattle.tdb_recover.specs.Pending.{Takes}
 use Rattle.tdb_recover.specs.Premises.{Premises}
+use Rattle.tdb_recover.specs.Reads.{FewBeside}
 use Rattle.tdb_recover.specs.Settled.{RanSettled}
 use Rattle.tdb_recover.specs.declared.ahead.Pending.{Pending}
 
@@ -94,8 +95,8 @@ pub record HasLookedAhead (old new : Outside) (secret : List ℕ) (opened : Reco
   pub ahead : List ReadPiece
   pub took : Bool
   pub in_order : new.trace.read ≡ old.trace.read ++ (opening ++ ahead)
-  -- these are at most 3,026
-  pub most : length (opening ++ ahead) ≤ 3026
+  -- these are at most 4,161 for the roster, and 3,026 beside it
+  pub most : FewBeside 3026 4161 (opening ++ ahead)
   pub head : old.anchor ≡ (log.head.count, log.head.mark.0)
   pub asks : AsksAhead secret log ahead took
   pub came : ((took ≡ false) × (opened ≡ log)) ⊎ ((took ≡ true) × HasTakenShown secret log ahead opened)

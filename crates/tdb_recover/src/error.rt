@@ -1,10 +1,11 @@
 //! Why a log wasn't opened.
 ghost use Rattle.std.specs.Prelude.{◌≡◌};
-ghost use Rattle.tdb_recover.specs.Explained.{open_error_of};
+ghost use Rattle.tdb_recover.specs.Explained.{open_error_of, open_error_of_piece};
 ghost use Rattle.tdb_recover.specs.declared.error.OpenError.TheVariants.{Memory};
 
 use std::alloc::{AllocError, AllocFailed};
 use tdb_base::{Damage, Place};
+use tdb_map::PieceError;
 use tdb_overlay::FetchError;
 use thiserror::Error;
 
@@ -36,6 +37,19 @@ impl From<FetchError> for OpenError {
             FetchError::Tampered(damage) => OpenError::Tampered(damage),
             FetchError::Fault => OpenError::Fault,
             FetchError::Memory => OpenError::Memory,
+        }
+    }
+}
+
+impl From<PieceError> for OpenError {
+    ghost from_gives = { λ cause error. error ≡ open_error_of_piece cause };
+
+    fn from(cause: PieceError) -> OpenError {
+        match cause {
+            PieceError::Tampered(damage) => OpenError::Tampered(damage),
+            PieceError::Form { place } => OpenError::Form { place },
+            PieceError::Fault => OpenError::Fault,
+            PieceError::Memory => OpenError::Memory,
         }
     }
 }

@@ -18,7 +18,7 @@ ghost use Rattle.tdb_recover.specs.Explained.{IsCaused};
 ghost use Rattle.tdb_recover.specs.FirstText.{HasFirstText};
 ghost use Rattle.tdb_recover.specs.Opening.{HasLookedAhead, HasNotRecovered, HasRecovered, StaysOrTakes};
 ghost use Rattle.tdb_recover.specs.Premises.{Premises};
-ghost use Rattle.tdb_recover.specs.Reads.{ReadsAtMost, ReadsOnly};
+ghost use Rattle.tdb_recover.specs.Reads.{ReadsBeside, ReadsOnly};
 ghost use Rattle.tdb_recover.specs.Unwritten.{IsSure, WritesNothing};
 ghost use Rattle.tdb_recover.specs.declared.error.OpenError.TheVariants.{Unformatted, Tampered, Form, Fault};
 
@@ -26,12 +26,13 @@ use crate::ahead::look_ahead;
 use crate::error::OpenError;
 use crate::records::read_segments;
 use crate::replay::replay;
+use crate::roster::read_roster;
 use crate::taking::take;
 use crate::texts::read_chain;
 use std::alloc::Global;
-use tdb_append::{Head, slot_of};
+use tdb_append::Head;
 use tdb_base::Digest;
-use tdb_overlay::{Keys, Overlay, Recovered};
+use tdb_overlay::{Keys, Recovered};
 use tdb_platform::Platform;
 
 /// Opens the log whose last text has a count and a mark.
@@ -55,8 +56,8 @@ fn open_log<P: Platform>(
         (λ whole. whole.anchor ≡ (count, mark.0)
         → ReadsOnlyIn (P.outside platform.old) (P.outside platform.new) whole)) }
     ensures caused { IfErr result (IsCaused (P.outside platform.old) (P.outside platform.new)) }
-    ensures most { ReadsAtMost 2002 (P.outside platform.old) (P.outside platform.new) }
-    ensures most_ok { IfOk result (λ log. ReadsAtMost (2 * (log.head.count - log.head.base) + 2) (P.outside platform.old)
+    ensures most { ReadsBeside 2002 4161 (P.outside platform.old) (P.outside platform.new) }
+    ensures most_ok { IfOk result (λ log. ReadsBeside (2 * (log.head.count - log.head.base) + 2) 4161 (P.outside platform.old)
         (P.outside platform.new)) }
     ensures quiet { result ≢ Err Fault → (P.outside platform.new).faults ≡ (P.outside platform.old).faults }
     ensures explained { IfErr result (λ error. EachLog (P.outside platform.old) (P.outside platform.new) keys.now
@@ -65,12 +66,8 @@ fn open_log<P: Platform>(
 {
     let chain = read_chain(alloc, platform, keys, count, &mark)?;
     let base = chain.base;
-    if base.root.is_some() {
-        return Err(OpenError::Form {
-            place: slot_of(base.count),
-        });
-    }
     let segments = read_segments(alloc, platform, keys, &base)?;
+    let overlay = read_roster(alloc, platform, keys, &segments, &base)?;
     let mut log = Recovered {
         suite: base.suite,
         head: Head {
@@ -79,7 +76,7 @@ fn open_log<P: Platform>(
             base: base.count,
         },
         segments,
-        overlay: Overlay::new(alloc),
+        overlay,
     };
     replay(alloc, platform, keys, &mut log, chain)?;
     Ok(log)
@@ -114,8 +111,8 @@ fn begin<P: Platform>(platform: &mut P) -> Result<(u64, Digest), OpenError>
 /// Reads the log that the anchor names. It writes nothing.
 ///
 /// The anchor is asked for, and what was written before is made sure of. The texts are then read
-/// from the last one back to that of the last checkpoint, then its segment table, and then the
-/// lists of the commits behind it, oldest first. Each piece is read once.
+/// from the last one back to that of the last checkpoint, then its segment table, the nodes of its
+/// roster, its leaders, and then the lists of the commits behind it, oldest first.
 pub fn read_log<P: Platform>(
     alloc: Global,
     platform: &mut P,
@@ -139,16 +136,17 @@ pub fn read_log<P: Platform>(
     ensures recovered { IfOk result (λ log. (store : Store) (history : History) (last : StoreState)
         → Premises (P.outside platform.old) (P.outside platform.new) keys.now store history last
         → IsRecovered (needed (P.outside platform.old).trace.written store (P.outside platform.old).anchor) store log last) }
-    // each piece is read whole, and none but the texts, the table and the lists that the log needs
+    // each piece is read whole, and none but the texts, the table, the roster, its leaders and the lists that the log needs
     ensures only_opening { IfOk result (λ log. (store : Store) (history : History) (last : StoreState)
         → Premises (P.outside platform.old) (P.outside platform.new) keys.now store history last
         → ReadsOnly (IsOpeningPiece (P.outside platform.old).trace.written store (P.outside platform.old).anchor) (P.outside platform.old)
         (P.outside platform.new)) }
-    // at most the text of the last checkpoint and its table, and the text and the list of each commit behind it
-    ensures most { ReadsAtMost 2002 (P.outside platform.old) (P.outside platform.new) }
-    ensures most_ok { IfOk result (λ log. ReadsAtMost (2 * (log.head.count - log.head.base) + 2) (P.outside platform.old)
+    // beside the roster at most the text of the last checkpoint and its table, and the text and the list of each commit behind it
+    ensures most { ReadsBeside 2002 4161 (P.outside platform.old) (P.outside platform.new) }
+    ensures most_ok { IfOk result (λ log. ReadsBeside (2 * (log.head.count - log.head.base) + 2) 4161 (P.outside platform.old)
         (P.outside platform.new)) }
-    // damage is told only of a text since the last checkpoint, of the table or of a list, and the last read of it showed it
+    // damage is told only of a text since the last checkpoint, the table, a roster node, a leader or a list, and the last read
+    // of it showed it
     ensures tampered { (damage : Damage) → result ≡ Err (Tampered damage) → (store : Store) (history : History) (last : StoreState)
         → Premises (P.outside platform.old) (P.outside platform.new) keys.now store history last
         → IsDamageOf (P.outside platform.old) (P.outside platform.new)
@@ -205,9 +203,10 @@ pub fn recover<P: Platform>(
     // what is read behind the log, and whether a commit is taken, follows from what is shown
     ensures ahead { IsTrue (P.outside platform.old).tells
         → IfOk result (HasLookedAhead (P.outside platform.old) (P.outside platform.new) keys.now) }
-    // at most 3,026 pieces are read, whatever the device shows
-    ensures most { ReadsAtMost 3026 (P.outside platform.old) (P.outside platform.new) }
-    // damage is told only of a text since the last checkpoint, of the table or of a list, and the last read of it showed it
+    // at most 4,161 pieces are read for the roster, and 3,026 beside it, whatever the device shows
+    ensures most { ReadsBeside 3026 4161 (P.outside platform.old) (P.outside platform.new) }
+    // damage is told only of a text since the last checkpoint, the table, a roster node, a leader or a list, and the last read
+    // of it showed it
     ensures tampered { (damage : Damage) → result ≡ Err (Tampered damage) → (store : Store) (history : History) (from : StoreState)
         → Premises (P.outside platform.old) (P.outside platform.new) keys.now store history from
         → IsDamageOf (P.outside platform.old) (P.outside platform.new)

@@ -31,7 +31,7 @@ const TABLE: u32 = 4;
 const LIST: u32 = 5;
 
 /// Reads a record of the system, and gives its plain text.
-fn open_record<P: Platform>(
+pub(crate) fn open_record<P: Platform>(
     alloc: Global,
     platform: &mut P,
     keys: &Keys,
@@ -71,6 +71,7 @@ pub(crate) fn read_segments<P: Platform>(
     ensures segments { IsTrue (P.outside platform.old).tells → IfOk result (λ segments.
         (given : IsTableIn (P.outside platform.old).trace.written (P.outside platform.new).trace keys.now text.now)
         → segments ≡ table_space given.table.table (end_of text.now.first)) }
+    ensures many { IfOk result (λ segments. segments.segments ≡ text.now.segments) }
     ensures only { IsTrue (P.outside platform.old).tells
         → IfOk result (λ _. ReadsOnly (λ p. p ≡ text.now.first) (P.outside platform.old) (P.outside platform.new)) }
     ensures caused { IfErr result (IsCaused (P.outside platform.old) (P.outside platform.new)) }

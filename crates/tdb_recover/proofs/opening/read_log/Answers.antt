@@ -1,4 +1,4 @@
-use Rattle.std.proofs.Common.{◌+◌, ◌-◌, ◌*◌, List, ap, sym, subst, arith}
+use Rattle.std.proofs.Common.{◌+◌, ◌-◌, ◌*◌, List, ap, sym, subst}
 use Rattle.tdb_base.specs.Trace.{Trace, WrittenPiece}
 use Rattle.tdb_platform.specs.Outside.{Anchor}
 use Rattle.tdb_overlay.specs.Needed.{needed}
@@ -9,7 +9,7 @@ use Rattle.tdb_recover.specs.Reads.{ReadsOnly}
 use Rattle.tdb_recover.specs.declared.error.OpenError.TheVariants.{Tampered, Form}
 use Rattle.tdb_recover.proofs.Answering.{if_err_is, if_ok_as}
 use Rattle.tdb_recover.proofs.Composing.{explained_then, given_then, tells_then, written_back}
-use Rattle.tdb_recover.proofs.Counted.{most_none, most_then}
+use Rattle.tdb_recover.proofs.Beside.{beside_none, beside_same}
 use Rattle.tdb_recover.proofs.FirstRead.{first_earlier}
 use Rattle.tdb_recover.proofs.Only.{only_none, only_then}
 use Rattle.tdb_recover.proofs.Showing.{explained_as}
@@ -100,25 +100,20 @@ returns-in-Ok-clause-only_opening g c =
 pub returns-in-Ok-clause-most : goal.returns-in-Ok-clause-most
 returns-in-Ok-clause-most g c =
     let outside = g.P.Platform.outside in
-    let old = c.args.platform.now in
-    let mid = c.begin.new.platform in
-    most_then outside g.P.Platform.crash_states 0 2002 2002 old mid c.open_log.new.platform (omega arith) c.begin.ensures.reads
-    c.open_log.ensures.reads (most_none 0 (outside old) (outside mid) c.begin.ensures.trace) c.open_log.ensures.most
+    beside_same 2002 4161 (outside c.args.platform.now) (outside c.begin.new.platform) (outside c.open_log.new.platform) c.begin.ensures.trace
+    c.begin.ensures.reads.tells c.open_log.ensures.most
 
 pub returns-in-Ok-clause-most_ok : goal.returns-in-Ok-clause-most_ok
 returns-in-Ok-clause-most_ok g c =
     let outside = g.P.Platform.outside in
-    let old = c.args.platform.now in
-    let mid = c.begin.new.platform in
     if_ok_as c.open_log.result _ _ c.open_log.ensures.most_ok
     (λ log few.
-    let n = 2 * (log.head.count - log.head.base) + 2 in
-    most_then outside g.P.Platform.crash_states 0 n n old mid c.open_log.new.platform (omega arith) c.begin.ensures.reads
-    c.open_log.ensures.reads (most_none 0 (outside old) (outside mid) c.begin.ensures.trace) few)
+    beside_same (2 * (log.head.count - log.head.base) + 2) 4161 (outside c.args.platform.now) (outside c.begin.new.platform)
+    (outside c.open_log.new.platform) c.begin.ensures.trace c.begin.ensures.reads.tells few)
 
 pub returns-in-Err-clause-most : goal.returns-in-Err-clause-most
 returns-in-Err-clause-most g c =
-    most_none 2002 (g.P.Platform.outside c.args.platform.now) (g.P.Platform.outside c.begin.new.platform) c.begin.ensures.trace
+    beside_none 2002 4161 (g.P.Platform.outside c.args.platform.now) (g.P.Platform.outside c.begin.new.platform) c.begin.ensures.trace
 
 pub returns-in-Ok-clause-accepted : goal.returns-in-Ok-clause-accepted
 returns-in-Ok-clause-accepted g c t =

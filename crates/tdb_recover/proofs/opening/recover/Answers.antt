@@ -5,7 +5,7 @@ use Rattle.tdb_overlay.proofs.ReadingLaws.{reads_then}
 use Rattle.tdb_recover.specs.declared.error.OpenError.TheVariants.{Fault}
 use Rattle.tdb_recover.proofs.Answering.{if_ok_two}
 use Rattle.tdb_recover.proofs.Composing.{tells_then}
-use Rattle.tdb_recover.proofs.Counted.{most_as, most_opened, most_same}
+use Rattle.tdb_recover.proofs.Beside.{beside_after, beside_as, beside_opened}
 use Rattle.tdb_recover.proofs.Opened.{IsLogRead, known, looked, may_have_taken, ok_is_no_err, shown, stays_or_takes}
 use Rattle.tdb_recover.proofs.Opened.{stopped_reading, took_it, took_nothing}
 use Rattle.tdb_recover.proofs.FirstRead.{first_longer, ok_always}
@@ -123,13 +123,13 @@ returns-in-Ok-Some-clause-ahead g c t =
     let asks = rw c.in-Ok-Some.field-0-is at sees.2 in
     let both = reads_then outside states counts old mid then read.reads sees.1.only in
     let told = tells_then outside states old then both t in
-    let few = most_opened outside states c.in-Ok.log.head old mid then c.in-Ok.ensures.counts.commits read.reads sees.1.only
+    let few = beside_opened outside states old mid then read.reads sees.1.only c.in-Ok.log.head c.in-Ok.ensures.counts.commits
     c.in-Ok.ensures.most_ok c.look_ahead.ensures.most c.look_ahead.ensures.none in
     let at_then = tells_then outside states old mid read.reads t in
     if_ok_two c.take.result _ _ _ c.take.ensures.head c.take.ensures.kept
     (λ r is kept. looked outside states counts numbered old mid keys c.in-Ok.log read new r true sees.0 t
     (writes_then outside states counts mid then new sees.1.only c.take.ensures.unwritten)
-    (most_same 3026 (outside old) (outside then) (outside new) few
+    (beside_after 3026 4161 (outside old) (outside then) (outside new) few
     (λ told. c.take.ensures.unread (tells_then outside states old then both told)))
     (ap (λ (u : Trace). u.read) (c.take.ensures.unread told) ∙ sees.1.told at_then) asks.0
     (inr (
@@ -224,7 +224,7 @@ returns-in-Ok-None-clause-ahead g c t =
     } in
     let sees = c.in-Ok-None.ensures.asks in
     let asks = rw c.in-Ok-None.field-0-is at sees.2 in
-    let few = most_opened outside states c.in-Ok.log.head old mid then c.in-Ok.ensures.counts.commits read.reads sees.1.only
+    let few = beside_opened outside states old mid then read.reads sees.1.only c.in-Ok.log.head c.in-Ok.ensures.counts.commits
     c.in-Ok.ensures.most_ok c.look_ahead.ensures.most c.look_ahead.ensures.none in
     looked outside states counts numbered old mid keys c.in-Ok.log read then c.in-Ok.log false sees.0 t
     (writes_reads outside states mid then sees.1.only) few (sees.1.told (tells_then outside states old mid read.reads t)) asks.0
@@ -275,7 +275,7 @@ returns-in-Err-look_ahead-clause-anchor_err g c t =
 
 pub returns-in-Err-clause-most : goal.returns-in-Err-clause-most
 returns-in-Err-clause-most g c =
-    most_as 2002 3026 (g.P.Platform.outside c.args.platform.now) (g.P.Platform.outside c.read_log.new.platform) (omega arith)
+    beside_as 2002 3026 4161 (g.P.Platform.outside c.args.platform.now) (g.P.Platform.outside c.read_log.new.platform) (omega arith)
     c.read_log.ensures.most
 
 pub returns-in-Ok-Some-clause-most : goal.returns-in-Ok-Some-clause-most
@@ -286,21 +286,21 @@ returns-in-Ok-Some-clause-most g c =
     let mid = c.read_log.new.platform in
     let then = c.look_ahead.new.platform in
     let both = reads_then outside states g.met.P.Platform.counts old mid then c.read_log.ensures.reads c.look_ahead.ensures.reads in
-    most_same 3026 (outside old) (outside then) (outside c.take.new.platform)
-    (most_opened outside states c.in-Ok.log.head old mid then c.in-Ok.ensures.counts.commits c.read_log.ensures.reads
-    c.look_ahead.ensures.reads c.in-Ok.ensures.most_ok c.look_ahead.ensures.most c.look_ahead.ensures.none)
+    beside_after 3026 4161 (outside old) (outside then) (outside c.take.new.platform)
+    (beside_opened outside states old mid then c.read_log.ensures.reads c.look_ahead.ensures.reads c.in-Ok.log.head
+    c.in-Ok.ensures.counts.commits c.in-Ok.ensures.most_ok c.look_ahead.ensures.most c.look_ahead.ensures.none)
     (λ t. c.take.ensures.unread (tells_then outside states old then both t))
 
 pub returns-in-Ok-None-clause-most : goal.returns-in-Ok-None-clause-most
 returns-in-Ok-None-clause-most g c =
-    most_opened g.P.Platform.outside g.P.Platform.crash_states c.in-Ok.log.head c.args.platform.now c.read_log.new.platform
-    c.look_ahead.new.platform c.in-Ok.ensures.counts.commits c.read_log.ensures.reads c.look_ahead.ensures.reads c.in-Ok.ensures.most_ok
+    beside_opened g.P.Platform.outside g.P.Platform.crash_states c.args.platform.now c.read_log.new.platform c.look_ahead.new.platform
+    c.read_log.ensures.reads c.look_ahead.ensures.reads c.in-Ok.log.head c.in-Ok.ensures.counts.commits c.in-Ok.ensures.most_ok
     c.look_ahead.ensures.most c.look_ahead.ensures.none
 
 pub returns-in-Err-look_ahead-clause-most : goal.returns-in-Err-look_ahead-clause-most
 returns-in-Err-look_ahead-clause-most g c =
-    most_opened g.P.Platform.outside g.P.Platform.crash_states c.in-Ok.log.head c.args.platform.now c.read_log.new.platform
-    c.look_ahead.new.platform c.in-Ok.ensures.counts.commits c.read_log.ensures.reads c.look_ahead.ensures.reads c.in-Ok.ensures.most_ok
+    beside_opened g.P.Platform.outside g.P.Platform.crash_states c.args.platform.now c.read_log.new.platform c.look_ahead.new.platform
+    c.read_log.ensures.reads c.look_ahead.ensures.reads c.in-Ok.log.head c.in-Ok.ensures.counts.commits c.in-Ok.ensures.most_ok
     c.look_ahead.ensures.most c.look_ahead.ensures.none
 
 pub returns-in-Ok-Some-clause-accepted : goal.returns-in-Ok-Some-clause-accepted

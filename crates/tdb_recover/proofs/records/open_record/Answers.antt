@@ -30,7 +30,7 @@ returns-in_err-bytes-clause-explained g c t =
     (λ e is plain given.
     subst (IsExplained old new (λ p. p ≡ c.args.piece.now)) (sym is)
     (piece_error old new c.args.piece.now c.in_err-bytes.field-0.0
-    (λ damage same. let h = c.in_err-bytes.ensures.tampered damage (ap Err same) in (h.0, h.1, h.2 t))
+    (λ damage same. let h = c.in_err-bytes.ensures.tampered damage (ap Err same) in (h.0, h.1, (h.2.0, h.2.3 t, h.2.1, h.2.2)))
     (λ honest stands damage same. c.in_err-bytes.ensures.stands honest stands damage (ap Err same))))
 
 pub returns-in-Err-Form-clause-explained : goal.returns-in-Err-Form-clause-explained
@@ -51,7 +51,7 @@ returns-in_err-bytes-clause-most g c =
     let outside = g.P.Platform.outside in
     let piece = c.args.piece.now in
     most_failed (outside c.args.platform.now) (outside c.fetch.new.platform) piece.place.0 piece.length c.in_err-bytes.field-0.0
-    (λ damage same t. let h = c.in_err-bytes.ensures.tampered damage (ap Err same) in let shown = h.2 t in (shown.0, shown.1))
+    (λ damage same t. let h = c.in_err-bytes.ensures.tampered damage (ap Err same) in (h.2.0, h.2.3 t))
     (λ same. c.in_err-bytes.ensures.failed (ap Err same))
     (λ same t. ap (λ (o : Outside). o.trace) (ap outside (c.in_err-bytes.ensures.unread (ap Err same))))
 
