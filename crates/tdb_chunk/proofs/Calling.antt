@@ -1,6 +1,6 @@
 -- What a commit call does, by what became of its put, and of one that was refused.
-use Rattle.std.proofs.Common.{◌≡◌, ◌≢◌, inl, ◌+◌, ◌<◌, ◌≤◌, ℕ, List, [], ◌∷◌, ◌++◌, Some, Result, Ok, Err, IsTrue, refl, sym, ◌∙◌, ap, subst, arith, replicate}
-use Rattle.std.specs.Prelude.{All, IfOk, OnOk}
+use Rattle.std.proofs.Common.{◌≡◌, ◌≢◌, inl, ◌+◌, ◌<◌, ℕ, List, [], ◌∷◌, ◌++◌, Some, Result, Ok, Err, IsTrue, refl, sym, ◌∙◌, ap, subst, arith, replicate}
+use Rattle.std.specs.Prelude.{IfOk, OnOk}
 use Rattle.std.specs.List.{AllByRecursion}
 use Rattle.std.proofs.lemmas.Bool.{false≢true}
 use Rattle.tdb_append.specs.declared.head.Head.{Head}
@@ -27,14 +27,12 @@ use Rattle.tdb_seg.specs.SegmentSpace.{SegmentSpace}
 use Rattle.tdb_overlay.specs.Covering.{noted_all}
 use Rattle.tdb_overlay.specs.Found.{Store}
 use Rattle.tdb_overlay.specs.Growth.{IsSettled, OneCommit}
-use Rattle.tdb_overlay.specs.Intact.{IsIntact}
 use Rattle.tdb_overlay.specs.Log.{IsLog}
 use Rattle.tdb_overlay.specs.SealedOnly.{OnlySealed}
 use Rattle.tdb_overlay.specs.StoreState.{StoreState, commit_on, committed}
 use Rattle.tdb_mark.specs.CommitChain.{commit_chain}
 use Rattle.tdb_chunk.specs.Committing.{AddedFrom, IsCommitCall, IsLonger, is_refusal}
 use Rattle.tdb_chunk.specs.Known.{IsAtHead, Knows, store_of}
-use Rattle.tdb_chunk.specs.LaidOut.{IsFreshIn}
 use Rattle.tdb_chunk.specs.Preparing.{IsNext, IsPrepared, refused_by}
 use Rattle.tdb_chunk.specs.Stepping.{IsPutStep, HasKnownLog}
 use Rattle.tdb_overlay.specs.Sound.{IsSound}
@@ -45,7 +43,6 @@ use Rattle.tdb_chunk.specs.Text.{anchor_of, next_head, text_in_slot, text_of}
 use Rattle.tdb_chunk.specs.declared.open_log.OpenLog.{OpenLog}
 use Rattle.tdb_chunk.proofs.Committing.{allowed_on, next_known, next_step}
 use Rattle.tdb_chunk.proofs.Growing.{Counts, Steps, added_err, added_ok, none_added, put_added}
-use Rattle.tdb_chunk.proofs.Keeping.{put_keeps}
 use Rattle.tdb_chunk.proofs.Placing.{sealed_none}
 use Rattle.tdb_overlay.proofs.PutLogs.{found_in_put, grows_all, longer_chain, follows_is, unread_by}
 use Rattle.tdb_chunk.proofs.Logs.{put_adds}
@@ -74,7 +71,6 @@ pub refused_call : {D : Type 0} (outside : D → Outside) (crash_states : D → 
 refused_call {D} outside crash_states counts changes was now_is p e settled isnt kept refuses = record {
   added = λ tells. none_added {T = Unit {0}} {E = CommitError} outside crash_states counts (Knows (outside p) was) (OneCommit (store_of was) changes) (store_of was) p (Err e) tells settled refl;
   knows = λ tells. tt;
-  whole = λ tells unforged before from is known intact. intact;
   refused = λ last known refusal. refuses last known refusal;
   allowed = λ last known. tt;
   fault_allowed = λ is. absurd (isnt (fault_of {T = Unit {0}} e is));
@@ -142,15 +138,6 @@ module _ {D : Type 0} (outside : D → Outside) (crash_states : D → CrashState
       put_added outside crash_states counts (Knows (outside old) was) (OneCommit store changes) store old new was.log.head.count was.log.head.mark.0 (text_in_slot secret c) ps c put.reads counted prev some steps tells (at_count tells) (inl (at_head tells))
       settled result put.puts (put.advanced tells) (put.only tells)
 
-  -- whatever came of the put, what the log needs stands
-  keeps_by : (result : Result Head Failed) → PutCommit outside crash_states secret was.log.head c ps old new result → IsTrue (outside old).tells → IsUnforged (outside new).trace (commit_of (commit_key_of secret)) → (before_h : History) (from : StoreState)
-      → IsLog (outside old).trace.written store (outside old).anchor before_h from → Knows (outside old) was from → IsIntact (outside old).trace.written store (outside old).anchor → IsIntact (outside new).trace.written store (outside new).anchor
-  keeps_by result put tells unforged before_h from is known intact =
-      let based : from.base ≤ c.base = omega (arith, known.base, ap (λ (k : Commit). k.base) next.commit) in
-      put_keeps store (outside old) (outside new) was.log.head.count ps put.puts.done put.puts.rest c before_h from is put.reads counted next.laid.in_segments next.laid.apart
-      (subst (λ (s : SegmentSpace). All (IsFreshIn s) ps) known.space next.laid.fresh) put.puts.in_order (put.puts.wrote.trace tells) (sym known.count) intact was.log.head.mark.0 ((from.count + 1, changes) ∷ []) (committed from changes space) prev some
-      (next_step (outside old) was keep entries before behind changes prepared list not_full counts_on from known c ps space next values) based (at_count tells) (inl (at_head tells)) unforged (put.puts.anchor tells)
-
   step_by : (result : Result Head Failed) → PutCommit outside crash_states secret was.log.head c ps old new result
       → (IsSound secret (outside old) → HasKnownLog (outside old) was)
       → RanStep outside crash_states store ((was.log.head.count + 1, changes) ∷ []) old new result
@@ -162,7 +149,6 @@ module _ {D : Type 0} (outside : D → Outside) (crash_states : D → CrashState
   fault_call now_is x put kept = record {
     added = λ tells. added_err outside crash_states (Knows (outside old) was) (OneCommit store changes) store old new (Err x) (Err Fault) refl (added_by (Err x) put tells);
     knows = λ tells. tt;
-    whole = keeps_by (Err x) put;
     refused = λ last known refusal. absurd (false≢true refusal);
     allowed = λ last known. tt;
     fault_allowed = λ is last known. (committed last changes space, allowed_on (outside old) was keep entries before behind changes prepared list not_full counts_on last known c ps space next values);
@@ -229,7 +215,6 @@ module _ {D : Type 0} (outside : D → Outside) (crash_states : D → CrashState
     done_call = record {
       added = λ tells. added_ok outside crash_states (Knows (outside old) was) (OneCommit store changes) store old new (Ok head) (Ok x) head refl (added_by (Ok head) put tells);
       knows = longer;
-      whole = keeps_by (Ok head) put;
       refused = λ last known. tt;
       allowed = λ last known. (committed last changes space, allowed_on (outside old) was keep entries before behind changes prepared list not_full counts_on last known c ps space next values);
       fault_allowed = λ is. absurd (ok_is_no_err x is);

@@ -1,5 +1,5 @@
 -- The start of a log: where its table is placed, and what its text adds.
-use Rattle.std.proofs.Common.{◌≡◌, ℕ, zero, suc, ◌+◌, ◌-◌, ◌/◌, ◌≤◌, Bool, true, not, List, [], ◌∷◌, length, Some, Ok, Result, IsTrue, ◌++◌, replicate, inl, inr, ⊎_elim, refl, sym, ap, subst, ◌∙◌, arith}
+use Rattle.std.proofs.Common.{◌≡◌, ℕ, zero, suc, ◌+◌, ◌-◌, ◌/◌, ◌≤◌, Bool, true, not, List, [], ◌∷◌, length, Option, None, Some, Ok, ◌⊎◌, Result, IsTrue, ◌++◌, replicate, inl, inr, ⊎_elim, refl, sym, ap, subst, ◌∙◌, arith}
 use Rattle.std.proofs.lemmas.Bool.{false≢true, cond-true, eqb-true, eq-eqb, or_left}
 use Rattle.std.proofs.lemmas.Option.{same_Some}
 use Rattle.std.specs.List.{filter, range_with_len}
@@ -17,7 +17,8 @@ use Rattle.tdb_mark.specs.declared.commit.Commit.{Commit}
 use Rattle.tdb_mark.specs.CommitChain.{commit_chain}
 use Rattle.tdb_mark.specs.CommitText.{commit_key_of, commit_of}
 use Rattle.tdb_model.specs.Apply.{History}
-use Rattle.tdb_model.specs.State.{no_partitions}
+use Rattle.std.specs.FinMap.{get-empty}
+use Rattle.tdb_model.specs.State.{Partition, no_partitions}
 use Rattle.tdb_node.specs.declared.table.Table.{Table}
 use Rattle.tdb_node.specs.SegmentTable.{IsTable, IsTableValue, IsUsed, table_bytes}
 use Rattle.tdb_append.specs.Put.{Puts}
@@ -29,13 +30,17 @@ use Rattle.tdb_seg.specs.SegmentSpace.{SegmentSpace, IsSegmentSpace, at_free_seg
 use Rattle.tdb_seg.specs.TableSpace.{table_space, used_in}
 use Rattle.tdb_seg.specs.InsideLaws.{contains-used_in}
 use Rattle.tdb_seg.proofs.Placing.{at_free-some, next-past, place-placed}
-use Rattle.tdb_overlay.specs.Found.{Store}
+use Rattle.tdb_overlay.specs.Found.{Finds, Store}
 use Rattle.tdb_overlay.specs.Keys.{system_key}
 use Rattle.tdb_overlay.specs.Log.{IsCheckpointOn, IsLog, IsLogOf, IsStep, end_of}
 use Rattle.tdb_overlay.specs.Found.{in_trace}
 use Rattle.tdb_overlay.specs.StoreState.{StoreState, first_place, first_state, formatted_state, record_length}
 use Rattle.tdb_chunk.specs.Committing.{AddedFrom}
 use Rattle.tdb_chunk.specs.Formatting.{Formatted, IsStart}
+use Rattle.tdb_overlay.specs.CheckpointState.{IsNarrow, IsPartitionOf, IsReached, IsTreeState}
+use Rattle.tdb_overlay.specs.Trees.{map_height, nodes_in, roster}
+use Rattle.tdb_map.proofs.TreeLemmas.{none_at}
+use Rattle.tdb_overlay.proofs.CheckpointLaws.{none_narrow, none_reached}
 use Rattle.tdb_overlay.proofs.PlacedLogs.{IsIn, table_placed}
 use Rattle.tdb_chunk.specs.LaidOut.{IsFreshIn, IsOneOf, LaidOut, in_pieces}
 use Rattle.tdb_chunk.specs.Names.{table_name}
@@ -133,6 +138,14 @@ starts_first o store before from start is =
     let none = subst (λ (chain : List Commit). IsLogOf (in_trace o.trace.written) store first_state chain before from) (sym (same_Some [] is.chain ends)) is.tells in
     none.1
 
+-- without a root there is no partition
+none_tells : (f : Finds) (store : Store) → IsTreeState f store None no_partitions
+none_tells f store part = record {
+  leaf = None;
+  at = record { at = λ below. none_at (nodes_in f (roster store None)) map_height 0 part; above = λ above. refl };
+  partition = subst (λ (p : Option Partition). IsPartitionOf f store part None p) (sym (get-empty {X = Partition} nat_cmp part)) tt;
+}
+
 -- the first text is a checkpoint on no text
 pub first_steps : (o : Outside) (store : Store) (head : Head) (segments : ℕ) (c : Commit) (ps : List Placed) (space : SegmentSpace) → IsStart store head segments c ps space → head.count ≡ 0 → o.anchor.0 ≡ 0
     → Steps (λ _. Unit {0}) store o ps c (Formatted store segments)
@@ -146,14 +159,21 @@ first_steps o store head segments c ps space s zero_count start before from is k
     ∙ ap (λ (y : StoreState). let x : StoreState = record { count = c.count; base = c.count; space = table_space s.table.table (end_of c.first); chunks = y.chunks } in x) (sym from_is) in
     let placed : IsIn (formatted_state store segments).space c.first =
     subst (λ (x : StoreState). IsIn x.space c.first) (sym after) (table_placed (in_pieces ps) store.secret c s.in_format s.table).1 in
+    let rootless : c.root ≡ None = ap (λ (k : Commit). k.root) s.commit in
+    let first_alone : (piece : Piece) → (piece ≡ c.first) ⊎ IsReached (in_pieces ps) store c.root piece → piece ≡ c.first =
+    λ piece which. ⊎_elim (λ same. same)
+    (λ reached. absurd (none_reached (in_pieces ps) store piece (subst (λ (root : Option Piece). IsReached (in_pieces ps) store root piece) rootless reached))) which in
     let checkpoint : IsCheckpointOn (in_pieces ps) store from c (formatted_state store segments) = record {
       kind = ap (λ (k : Commit). k.kind) s.commit;
       next = omega (arith, one, none);
       segments = inl none;
       table = s.table;
-      tree = (ap (λ (k : Commit). k.root) s.commit, ap (λ (x : StoreState). x.chunks) from_is);
+      tree = subst (λ (root : Option Piece). IsTreeState (in_pieces ps) store root from.chunks) (sym rootless)
+          (subst (λ (x : StoreState). IsTreeState (in_pieces ps) store None x.chunks) (sym from_is) (none_tells (in_pieces ps) store));
+      narrow = subst (λ (root : Option Piece). IsNarrow (in_pieces ps) store root) (sym rootless) (none_narrow (in_pieces ps) store);
       after_is = after;
-      placed = λ piece which. ⊎_elim (λ same. subst (IsIn (formatted_state store segments).space) (sym same) placed) (λ reached. absurd reached) which;
+      placed = λ piece which. subst (IsIn (formatted_state store segments).space) (sym (first_alone piece which)) placed;
+      apart = λ p q p_is q_is same. first_alone p p_is ∙ sym (first_alone q q_is);
     } in
     let step : IsStep (in_pieces ps) store from c [] (formatted_state store segments) = record { suite = ap (λ (k : Commit). k.suite) s.commit; adds = inl (checkpoint, refl) } in
     ([], formatted_state store segments, (refl, none, refl), step)

@@ -1,5 +1,6 @@
 -- What a commit of an open log comes to, seen from the store that owns it.
-use Rattle.std.specs.Prelude.{◌≡◌, ◌≢◌, ◌+◌, ◌<◌, ◌≤◌, ℕ, Bool, List, [], ◌∷◌, ◌++◌, length, true, false, Result, Ok, Err, IfErr, OnOk, IsTrue}
+use Rattle.std.specs.Prelude.{◌≡◌, ◌≢◌, ◌+◌, ◌<◌, ◌≤◌, ℕ, Bool, List, [], ◌∷◌, ◌++◌, length, true, false, Result, Ok}
+use Rattle.std.specs.Prelude.{Err, IfErr, OnOk, IsTrue}
 use Rattle.tdb_base.specs.Rose.{Rose}
 use Rattle.tdb_base.specs.Trace.{Extends}
 use Rattle.tdb_model.specs.Apply.{History}

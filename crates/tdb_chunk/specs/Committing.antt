@@ -11,7 +11,6 @@ use Rattle.tdb_platform.specs.Outside.{Anchor, Outside, Rose}
 use Rattle.tdb_platform.specs.CrashStates.{CrashStates, now, LeavesOnly}
 use Rattle.tdb_overlay.specs.Found.{Store}
 use Rattle.tdb_overlay.specs.Growth.{Commits, IsSettled, OneCommit, OrNothing, UnlessErr}
-use Rattle.tdb_overlay.specs.Intact.{IsIntact}
 use Rattle.tdb_overlay.specs.Log.{IsLog}
 use Rattle.tdb_overlay.specs.SealedOnly.{OnlySealed}
 use Rattle.tdb_overlay.specs.StoreState.{StoreState, commit_on}
@@ -82,12 +81,6 @@ pub record IsCommitCall {D T : Type 0} (outside : D → Outside) (crash_states :
       → (before : History) (from : StoreState)
       → IsLog (outside old).trace.written (store_of was) (outside old).anchor before from → Knows (outside old) was from
       → IsLonger (outside old) (outside new) was now_is changes before from)
-  -- where the pieces stood that the log needed, those stand that it needs now
-  pub whole : IsTrue (outside old).tells → IsUnforged (outside new).trace (commit_of (commit_key_of was.keys))
-      → (before : History) (from : StoreState)
-      → IsLog (outside old).trace.written (store_of was) (outside old).anchor before from → Knows (outside old) was from
-      → IsIntact (outside old).trace.written (store_of was) (outside old).anchor
-      → IsIntact (outside new).trace.written (store_of was) (outside new).anchor
   -- whatever is refused, is refused by the definition; only for memory and for a fault a call may fail otherwise
   pub refused : (last : StoreState) → Knows (outside old) was last
       → IfErr result (λ e. IsTrue (is_refusal e) → commit_on (store_of was) last changes ≡ Err e)

@@ -1,6 +1,7 @@
 pub mod Attached
 pub mod CommitFacts
 pub mod Committing
+pub mod Finding
 pub mod Formatting
 pub mod Known
 pub mod LaidOut

@@ -44,7 +44,7 @@ abbrev pub RefusesNow : {P : Type 0} → (P → Outside) → StoreView P → Lis
 RefusesNow outside s changes error = IsSoundStore outside s → (history : History) (last : StoreState) → StandsAt outside s history last
     → commit_on (store_in s) last changes ≡ Err error
 
--- Damage was shown on the way to that. As long as there are no maps of partitions, it is the record of a chunk that is damaged.
+-- Damage was shown on the way to that. It is told of a chunk alone, as long as no call goes through a map.
 abbrev pub ShowsDamage : {P : Type 0} → (P → Outside) → (P → CrashStates) → StoreView P → StoreView P → Damage → Target → Type 0
 ShowsDamage outside crash_states old new damage (OfChunk part rank) =
     Between outside crash_states old new (IsDamageOfChunk outside part.0 rank.0 damage)

@@ -14,7 +14,7 @@ ghost use Rattle.tdb_recover.specs.Damaged.{IsDamageOf};
 ghost use Rattle.tdb_recover.specs.FirstText.{HasFirstText};
 ghost use Rattle.tdb_recover.specs.Opening.{HasLookedAhead, HasNotRecovered, StaysOrTakes};
 ghost use Rattle.tdb_recover.specs.Premises.{Premises};
-ghost use Rattle.tdb_recover.specs.Reads.{ReadsAtMost};
+ghost use Rattle.tdb_recover.specs.Reads.{ReadsBeside};
 ghost use Rattle.tdb_recover.specs.Unwritten.{WritesNothing};
 ghost use Rattle.tdb_recover.specs.declared.error.OpenError.TheVariants as opens;
 ghost use Rattle.tdb_chunk.specs.Attached.{HasAttached};
@@ -44,9 +44,9 @@ impl<P: Platform> Store<P> {
         // no other piece was read than those of the log and of that commit, which is taken by what they show
         ensures ahead { IfOk result (λ s. IsTrue (P.outside platform).tells
             → HasLookedAhead (P.outside platform) (P.outside s.platform) secret.now s.log) }
-        // at most 3,026 pieces are read
-        ensures most { IfOk result (λ s. ReadsAtMost 3026 (P.outside platform) (P.outside s.platform)) }
-        ensures most_err { IfErr result (λ e. ReadsAtMost 3026 (P.outside platform) (P.outside e.0)) }
+        // at most 4,161 pieces are read for the roster, and 3,026 beside it
+        ensures most { IfOk result (λ s. ReadsBeside 3026 4161 (P.outside platform) (P.outside s.platform)) }
+        ensures most_err { IfErr result (λ e. ReadsBeside 3026 4161 (P.outside platform) (P.outside e.0)) }
         // nothing was written, and no fault is hidden
         ensures unwritten { IfOk result (λ s. WritesNothing P.outside P.crash_states platform s.platform) }
         ensures quiet { IfOk result (λ s. (P.outside s.platform).faults ≡ (P.outside platform).faults) }
@@ -61,7 +61,8 @@ impl<P: Platform> Store<P> {
         // it was only read, or the anchor is as it was or names the commit that was shown whole
         ensures anchor_err { IfErr result (λ e. IsTrue (P.outside platform).tells
             → StaysOrTakes P.outside P.crash_states platform e.0 secret.now) }
-        // nothing was written; unless the platform failed, it was only read, no fault is hidden, and a stop now leaves the anchor that was told
+        // nothing was written; unless the platform failed, it was only read, no fault is hidden, and a stop now
+        // leaves the anchor that was told
         ensures unwritten_err { IfErr result (λ e. WritesNothing P.outside P.crash_states platform e.0) }
         ensures reads_err { IfErr result (λ e. e.1 ≢ opens.Fault → OnlyReads P.outside P.crash_states platform e.0) }
         ensures settled_err { IfErr result (λ e. e.1 ≢ opens.Fault → IsSettled P.outside P.crash_states e.0) }

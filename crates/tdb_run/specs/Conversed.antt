@@ -10,7 +10,8 @@ use Rattle.tdb_stream.specs.SinkContent.{SinkContent}
 use Rattle.tdb_stream.specs.SourceContent.{SourceContent}
 use Rattle.tdb_run.specs.Ends.{status_of_end}
 use Rattle.tdb_run.specs.declared.status.Status.{Status}
-use Rattle.tdb_run.specs.declared.status.Status.TheVariants.{Done, Usage, AnchorCount, Damaged, PlatformFault, SourceFault, SinkFault, Memory, End, Refused}
+use Rattle.tdb_run.specs.declared.status.Status.TheVariants.{Done, Usage, AnchorCount, Damaged, PlatformFault}
+use Rattle.tdb_run.specs.declared.status.Status.TheVariants.{SourceFault, SinkFault, Memory, End, Refused}
 use Rattle.tdb_run.specs.declared.status.Success.TheVariants.{Formatted, Script}
 
 -- It ended as its script did: these lines were answered, and the sink holds what it held and the replies.

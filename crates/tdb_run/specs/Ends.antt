@@ -16,7 +16,8 @@ use Rattle.tdb_run.specs.declared.status.Finding.TheVariants.{Form, Tampered}
 use Rattle.tdb_run.specs.declared.status.Refusal.TheVariants.{Counter, Full, Ring}
 use Rattle.tdb_run.specs.declared.status.Success.TheVariants.{Script}
 use Rattle.tdb_run.specs.declared.status.Status.{Status}
-use Rattle.tdb_run.specs.declared.status.Status.TheVariants.{Done, AnchorCount, Damaged, PlatformFault, SourceFault, SinkFault, Memory, End, Refused}
+use Rattle.tdb_run.specs.declared.status.Status.TheVariants.{Done, AnchorCount, Damaged, PlatformFault, SourceFault}
+use Rattle.tdb_run.specs.declared.status.Status.TheVariants.{SinkFault, Memory, End, Refused}
 
 -- a script that ended so
 abbrev pub status_of_end : ScriptEnd → Status

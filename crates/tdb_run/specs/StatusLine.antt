@@ -8,7 +8,8 @@ use Rattle.tdb_run.specs.declared.status.Refusal.{Refusal}
 use Rattle.tdb_run.specs.declared.status.Refusal.TheVariants.{Full, Ring, Counter}
 use Rattle.tdb_run.specs.declared.status.Success.TheVariants.{Script, Formatted}
 use Rattle.tdb_run.specs.declared.status.Status.{Status}
-use Rattle.tdb_run.specs.declared.status.Status.TheVariants.{Done, Usage, AnchorCount, Damaged, PlatformFault, SourceFault, SinkFault, Memory, End, Refused}
+use Rattle.tdb_run.specs.declared.status.Status.TheVariants.{Done, Usage, AnchorCount, Damaged, PlatformFault}
+use Rattle.tdb_run.specs.declared.status.Status.TheVariants.{SourceFault, SinkFault, Memory, End, Refused}
 
 abbrev pub status_code : Status → ℕ
 status_code (Done success) = 0

@@ -25,10 +25,10 @@ ghost use Rattle.tdb_run.specs.UnalteredRuns.{EachGoesOn, UnalteredRuns};
 
 use tdb_platform::Platform;
 
-/// Runs one after another, over whatever a stop and the device's holder leave between them: each starts from the log of the anchor that
-/// was there or of one that a stop could leave, with at most one commit more that had been begun behind it, and that log has in their order all commits that
-/// earlier runs acknowledged. Whatever had been begun is a commit of one of these, unless it was there at first. The trace has no
-/// collision and no forgery at the last one's end.
+/// Runs one after another, over whatever a stop and the device's holder leave between them: each starts from the log of the
+/// anchor that was there or of one that a stop could leave, with at most one commit more that had been begun behind it, and
+/// that log has in their order all commits that earlier runs acknowledged. Whatever had been begun is a commit of one of
+/// these, unless it was there at first. The trace has no collision and no forgery at the last one's end.
 pub fn runs_follow<P: Platform>(_platform: &P)
     ensures { (secret : List ℕ) (p : P) (rs : List (P × P)) → IsKept P.outside P.crash_states secret p
         → (ran : Runs P.outside P.crash_states secret p rs) → IsSound secret (P.outside (last_of p rs))

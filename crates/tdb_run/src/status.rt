@@ -1,6 +1,7 @@
 //! How a run ended.
 ghost use Rattle.std.specs.Prelude.{◌≡◌, ◌↔◌, ◌<◌, ◌++◌, IfOk, IfSome, IsSome, OnOk, true, false};
-ghost use Rattle.tdb_run.specs.StatusLine.{finding_text, formatted_text, hex, hex_digit as digit, is_built, refusal_text, status_code, status_line};
+ghost use Rattle.tdb_run.specs.StatusLine.{finding_text, formatted_text, hex, hex_digit as digit, is_built};
+ghost use Rattle.tdb_run.specs.StatusLine.{refusal_text, status_code, status_line};
 ghost use Rattle.tdb_run.specs.declared.status.Finding.TheVariants.{Form, Tampered};
 ghost use Rattle.tdb_run.specs.declared.status.Refusal.TheVariants.{Full};
 

@@ -1,4 +1,4 @@
-use Rattle.std.proofs.Common.{◌≤◌, inr, List, ℕ, length, refl, sym, subst}
+use Rattle.std.proofs.Common.{◌≤◌, inl, inr, List, ℕ, length, refl, sym, subst}
 use Rattle.std.proofs.lemmas.Result.{IfOk-weaker}
 use Rattle.tdb_overlay.specs.Keys.{partition_key}
 use Rattle.tdb_overlay.proofs.Lengths.{sealed_length}
@@ -24,7 +24,7 @@ returns-clause-is_record c =
       name = name_in owner c.args.rank.0;
       key = partition_key c.args.keys.now owner.home owner.birth;
       plain = c.args.chunk.now;
-      key_for = inr ((refl, key.0, key.1, c.requires.rank), (owner.birth, key.2, refl));
+      key_for = inr ((inl refl, key.0, key.1, c.requires.rank), (owner.birth, key.2, refl));
       sealed = sealed;
     })
     (returns-clause-sealed c)

@@ -19,7 +19,7 @@ returns-in-Err-Tampered-clause-tampered g c damage is =
     let o = g.P.Platform.outside c.args.platform.now in
     let n = g.P.Platform.outside c.fetch.new.platform in
     let told = c.in-Err-Tampered.ensures.tampered c.in-Err-Tampered.damage (ap (λ (e : FetchError). Err e) c.in-Err-Tampered.field-0-is) in
-    let here : IsDamageOf c.args.piece.now o n c.in-Err-Tampered.damage = damage_is c.args.piece.now o n c.in-Err-Tampered.damage told.0 told.1 told.2 in
+    let here : IsDamageOf c.args.piece.now o n c.in-Err-Tampered.damage = damage_is c.args.piece.now o n c.in-Err-Tampered.damage told.0 told.1 (λ t. (told.2.0, told.2.3 t, told.2.1, told.2.2)) in
     subst {A = Damage} (IsDamageOf c.args.piece.now o n) (the_damage _ damage is) (subst {A = Damage} (IsDamageOf c.args.piece.now o n) (sym c.in-Err-Tampered.damage-is) here)
 
 pub returns-in-Ok-read_chunk-clause-bytes : goal.returns-in-Ok-read_chunk-clause-bytes

@@ -24,7 +24,7 @@ pub returns-clause-is_record : goal.returns-clause-is_record
 returns-clause-is_record c =
     let plain : List ℕ = list_bytes c.args.entries.now in
     IfOk-weaker c.seal_system.result _ _
-    (λ bytes sealed. record { name = list_name c.args.suite; key = system_key c.args.keys.now; plain = plain; key_for = inl ((refl, refl, inr refl), refl); sealed = sealed })
+    (λ bytes sealed. record { name = list_name c.args.suite; key = system_key c.args.keys.now; plain = plain; key_for = inl ((refl, inl (refl, inr refl)), refl); sealed = sealed })
     (returns-clause-sealed c)
 
 pub returns-clause-size : goal.returns-clause-size

@@ -24,7 +24,7 @@ pub returns-clause-is_record : goal.returns-clause-is_record
 returns-clause-is_record c =
     let plain : List ℕ = table_bytes c.args.table.now in
     IfOk-weaker c.seal_system.result _ _
-    (λ bytes sealed. record { name = table_name c.args.suite; key = system_key c.args.keys.now; plain = plain; key_for = inl ((refl, refl, inl refl), refl); sealed = sealed })
+    (λ bytes sealed. record { name = table_name c.args.suite; key = system_key c.args.keys.now; plain = plain; key_for = inl ((refl, inl (refl, inl refl)), refl); sealed = sealed })
     (returns-clause-sealed c)
 
 pub returns-clause-size : goal.returns-clause-size

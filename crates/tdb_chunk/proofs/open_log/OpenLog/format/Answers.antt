@@ -15,7 +15,6 @@ use Rattle.tdb_chunk.specs.Formatting.{Formatted, store_under}
 use Rattle.tdb_chunk.specs.Stepping.{IsPutStep}
 use Rattle.tdb_chunk.specs.Text.{anchor_of, text_in_slot}
 use Rattle.tdb_chunk.proofs.FirstTexts.{first_text}
-use Rattle.tdb_chunk.proofs.Keeping.{format_keeps}
 use Rattle.tdb_chunk.proofs.Growing.{added_always, added_err, added_ok, none_added}
 use Rattle.tdb_overlay.proofs.PutLogs.{unread_by}
 use Rattle.tdb_chunk.proofs.Starting.{format_added}
@@ -116,30 +115,6 @@ returns-clause-knows g c =
       space = start.is_first;
       chunks = subst (λ (covers : Covers). IsCovering finds secret covers no_partitions) (sym c.new.ensures) (covering_none finds secret);
     }
-
-pub returns-in_default-clause-whole : goal.returns-in_default-clause-whole
-returns-in_default-clause-whole g c =
-    let outside = g.P.Platform.outside in
-    let secret : List ℕ = c.args.keys in
-    let store : Store = store_under secret c.args.suite in
-    let commit = c.in_ok-commit.field-0.commit in
-    let batch = c.in_ok-commit.field-0.batch in
-    let ps : List Placed = placed batch.pieces.items in
-    let puts = subst (λ (l : List Laid). Puts outside g.P.Platform.crash_states c.args.platform.now c.put_commit.new.platform (placed l ++ text_in_slot secret commit ∷ []) (anchor_of secret commit) c.put_commit.result) c.deref.ensures.value c.put_commit.ensures.puts in
-    format_keeps outside g.P.Platform.crash_states store c.no_head-head.result c.args.segments commit ps batch.segments c.args.platform.now c.put_commit.new.platform c.put_commit.result
-    c.in_ok-commit.ensures.start c.no_head-head.ensures.count c.no_head-head.ensures.mark c.put_commit.ensures.reads c.requires.first puts
-
-pub returns-clause-whole : goal.returns-clause-whole
-returns-clause-whole g c =
-    let outside = g.P.Platform.outside in
-    let secret : List ℕ = c.args.keys in
-    let store : Store = store_under secret c.args.suite in
-    let commit = c.in_ok-commit.field-0.commit in
-    let batch = c.in_ok-commit.field-0.batch in
-    let ps : List Placed = placed batch.pieces.items in
-    let puts = subst (λ (l : List Laid). Puts outside g.P.Platform.crash_states c.args.platform.now c.put_commit.new.platform (placed l ++ text_in_slot secret commit ∷ []) (anchor_of secret commit) c.put_commit.result) c.deref.ensures.value c.put_commit.ensures.puts in
-    format_keeps outside g.P.Platform.crash_states store c.no_head-head.result c.args.segments commit ps batch.segments c.args.platform.now c.put_commit.new.platform c.put_commit.result
-    c.in_ok-commit.ensures.start c.no_head-head.ensures.count c.no_head-head.ensures.mark c.put_commit.ensures.reads c.requires.first puts
 
 pub returns-in_err-commit-clause-steps : goal.returns-in_err-commit-clause-steps
 returns-in_err-commit-clause-steps g c =
