@@ -187,6 +187,7 @@ fn an_overlay_tells_what_lists_say(rt: HostRuntime) -> Result<(), Fail> {
         next: 10,
         parent: 0,
         born: 2,
+        root: None,
     };
     let copy = Leader {
         suite: Suite::Aes128,
@@ -195,6 +196,7 @@ fn an_overlay_tells_what_lists_say(rt: HostRuntime) -> Result<(), Fail> {
         next: 10,
         parent: 7,
         born: 5,
+        root: None,
     };
     assert_eq!(rt; overlay.leader(PartId(7)), Some(source));
     assert_eq!(rt; overlay.leader(PartId(8)), Some(copy));

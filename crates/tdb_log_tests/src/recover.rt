@@ -117,6 +117,7 @@ fn the_log_of_the_first_path_is_opened(rt: HostRuntime) -> Result<(), Fail> {
             next,
             parent: 0,
             born: 2,
+            root: None,
         };
         assert_eq!(rt; log.overlay.leader(PartId(part)), Some(leader));
     }
@@ -280,7 +281,7 @@ fn texts_that_do_not_fit_each_other_are_no_log(rt: HostRuntime) -> Result<(), Fa
     };
     let on_second = Commit { base: 2, ..third };
     for (commits, place) in [
-        ([with_root, second, third], 0),
+        ([with_root, second, third], 262_720),
         ([first, second, of_count(third, 4)], 512),
         ([first, of_count(second, 5), third], 256),
         ([first, second, on_second], 256),
