@@ -1,6 +1,7 @@
 -- KeyExpansion (FIPS 197 section 5.2), for keys of 16, 24 and 32 bytes. A word is a number below
 -- 2 ^ 32, and its first byte is its highest.
-use Rattle.std.specs.Prelude.{◌≡◌, ◌<◌, ℕ, zero, suc, ◌+◌, ◌-◌, ◌*◌, ◌/◌, ◌%◌, ◌^◌, ◌==◌, ◌&&◌, nat_lt, List, [], ◌∷◌, ◌++◌, length, bit_xor, slice_index, if◌then◌else◌}
+use Rattle.std.specs.Prelude.{◌≡◌, ◌<◌, ℕ, zero, suc, ◌+◌, ◌-◌, ◌*◌, ◌/◌, ◌%◌, ◌^◌, ◌==◌, ◌&&◌, nat_lt, List, [], ◌∷◌}
+use Rattle.std.specs.Prelude.{◌++◌, length, bit_xor, slice_index, if◌then◌else◌}
 use Rattle.std.specs.Int.{w32, byte_at, from_be_bytes, rotate_left, to_be_bytes}
 use Rattle.tdb_aes.specs.Field.{xtime}
 use Rattle.tdb_aes.specs.State.{bytes_of_words}

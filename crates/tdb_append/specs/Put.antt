@@ -31,7 +31,8 @@ pub record IsOld (honest : Bool) (done : List Placed) (earlier : Pairs) (image :
   pub same : IsTrue honest → SameExceptAt done before image
 
 -- the anchor is the next one, everything was written, and it stands in an image that is otherwise an earlier one
-pub record IsNext (honest : Bool) (done rest : List Placed) (next : Anchor) (earlier : Pairs) (image : List ℕ) (anchor : Anchor) : Type 0 where
+pub record IsNext (honest : Bool) (done rest : List Placed) (next : Anchor) (earlier : Pairs) (image : List ℕ) (anchor : Anchor)
+    : Type 0 where
   pub is_next : anchor ≡ next
   pub complete : rest ≡ []
   pub holds : IsTrue honest → EachHolds image done
@@ -39,7 +40,8 @@ pub record IsNext (honest : Bool) (done rest : List Placed) (next : Anchor) (ear
   pub over : IsOld honest done earlier image old_anchor
 
 -- A front of the writes was done, on Ok all of them. A stop since the start leaves the old anchors.
-pub record WritesSome {D T E : Type 0} (outside : D → Outside) (crash_states : D → CrashStates) (old new : D) (writes : List Placed) (result : Result T E) : Type 0 where
+pub record WritesSome {D T E : Type 0} (outside : D → Outside) (crash_states : D → CrashStates) (old new : D)
+    (writes : List Placed) (result : Result T E) : Type 0 where
   pub done : List Placed
   pub rest : List Placed
   pub in_order : writes ≡ done ++ rest
@@ -52,8 +54,10 @@ pub record WritesSome {D T E : Type 0} (outside : D → Outside) (crash_states :
   pub no_fewer_faults : (outside old).faults ≤ (outside new).faults
   pub cause : IsErr result → Rose (outside old).faults (outside new).faults
 
--- A front of the writes was done, on Ok all of them. The anchor is the old one, or the next one once all were done. A stop since the start leaves the same.
-pub record Puts {D T E : Type 0} (outside : D → Outside) (crash_states : D → CrashStates) (old new : D) (writes : List Placed) (next : Anchor) (result : Result T E) : Type 0 where
+-- A front of the writes was done, on Ok all of them. The anchor is the old one, or the next one once all were done. A
+-- stop since the start leaves the same.
+pub record Puts {D T E : Type 0} (outside : D → Outside) (crash_states : D → CrashStates) (old new : D)
+    (writes : List Placed) (next : Anchor) (result : Result T E) : Type 0 where
   pub done : List Placed
   pub rest : List Placed
   pub in_order : writes ≡ done ++ rest

@@ -10,7 +10,8 @@ use Rattle.tdb_bakfmt.specs.declared.header.TheConstants.{FULL, INCREMENTAL}
 -- the magic, and the fields in their order, all numbers big-endian, with eight zero bytes at the end
 unfoldable pub header_bytes : Header → List ℕ
 header_bytes h =
-    codes "TDBBAK01" ++ to_be_bytes w32 h.kind ++ to_be_bytes w32 (suite_number h.suite) ++ to_be_bytes w32 h.part ++ to_be_bytes w32 h.base_part
+    codes "TDBBAK01" ++ to_be_bytes w32 h.kind ++ to_be_bytes w32 (suite_number h.suite) ++ to_be_bytes w32 h.part
+    ++ to_be_bytes w32 h.base_part
     ++ to_be_bytes w64 h.born ++ to_be_bytes w64 h.base_born ++ to_be_bytes w64 0
 
 -- a full backup has no base

@@ -7,15 +7,18 @@ ghost use Rattle.tdb_bakfmt.specs.Item.{IsItemText};
 
 /// Two headers with one text are one.
 pub fn header_has_one_text()
-    ensures { (one other : Header) → IsHeaderValue one → IsHeader one → IsHeaderValue other → IsHeader other → header_bytes one ≡ header_bytes other → one ≡ other }
+    ensures { (one other : Header) → IsHeaderValue one → IsHeader one → IsHeaderValue other → IsHeader other
+        → header_bytes one ≡ header_bytes other → one ≡ other }
 {}
 
 /// An item is spelled in one way under a header and a key.
 pub fn item_has_one_text()
-    ensures { (header : Header) (key : List ℕ) (item : Item) (one other : List ℕ) → IsItemText header key item one → IsItemText header key item other → one ≡ other }
+    ensures { (header : Header) (key : List ℕ) (item : Item) (one other : List ℕ) → IsItemText header key item one
+        → IsItemText header key item other → one ≡ other }
 {}
 
 /// Two items with one text under a header and a key are one.
 pub fn bytes_are_one_item()
-    ensures { (header : Header) (key : List ℕ) (one other : Item) (bytes : List ℕ) → IsItemText header key one bytes → IsItemText header key other bytes → one ≡ other }
+    ensures { (header : Header) (key : List ℕ) (one other : Item) (bytes : List ℕ) → IsItemText header key one bytes
+        → IsItemText header key other bytes → one ≡ other }
 {}

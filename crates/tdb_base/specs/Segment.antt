@@ -14,4 +14,5 @@ LiesInOneSegment p = (k : ℕ) × (k < 4096) × LiesInSegment p.place.0 p.length
 
 -- the test of it
 abbrev pub lies_in_one_segment : Piece → Bool
-lies_in_one_segment p = nat_le 262144 p.place.0 && nat_lt p.place.0 1074003968 && nat_le 1 p.length && nat_le (p.place.0 % 262144 + p.length) 262144
+lies_in_one_segment p = nat_le 262144 p.place.0 && nat_lt p.place.0 1074003968 && nat_le 1 p.length
+    && nat_le (p.place.0 % 262144 + p.length) 262144

@@ -1,5 +1,6 @@
 //! Fields at places in bytes: numbers, most significant byte first, and strings of bytes.
-ghost use Rattle.std.specs.Prelude.{◌≡◌, ◌+◌, ◌<◌, ◌≤◌, ◌++◌, ◌↔◌, length, length as list_length, take, drop, IsNone, IfSome, OnErr, is_ok, if◌then◌else◌, vec_len, vec_capacity};
+ghost use Rattle.std.specs.Prelude.{◌≡◌, ◌+◌, ◌<◌, ◌≤◌, ◌++◌, ◌↔◌, length, length as list_length, take, drop, IsNone};
+ghost use Rattle.std.specs.Prelude.{IfSome, OnErr, is_ok, if◌then◌else◌, vec_len, vec_capacity};
 ghost use Rattle.std.specs.Int.{w32, w64, from_be_bytes, to_be_bytes};
 
 use std::alloc::AllocError;

@@ -6,8 +6,10 @@ ghost use Rattle.tdb_cache.specs.CachedNodes.{CachedNodes, node_under, asked, wi
 
 /// There are at most `capacity` nodes: so it is without one, and neither call changes it.
 pub fn nodes_stay_within_capacity()
-    ensures asked { (cache : CachedNodes) (digest : Digest) → length cache.nodes ≤ cache.capacity → length (asked cache digest).nodes ≤ cache.capacity }
-    ensures kept { (cache : CachedNodes) (digest : Digest) (node : Node) → 1 ≤ cache.capacity → length cache.nodes ≤ cache.capacity → length (with_node cache digest node).nodes ≤ cache.capacity }
+    ensures asked { (cache : CachedNodes) (digest : Digest) → length cache.nodes ≤ cache.capacity
+        → length (asked cache digest).nodes ≤ cache.capacity }
+    ensures kept { (cache : CachedNodes) (digest : Digest) (node : Node) → 1 ≤ cache.capacity → length cache.nodes ≤ cache.capacity
+        → length (with_node cache digest node).nodes ≤ cache.capacity }
 {}
 
 /// A node that was kept is found under its digest, and what is found under another was there before. Use
@@ -15,5 +17,7 @@ pub fn nodes_stay_within_capacity()
 pub fn nodes_found_were_kept()
     ensures asked { (cache : CachedNodes) (digest other : Digest) → node_under (asked cache digest) other ≡ node_under cache other }
     ensures kept { (cache : CachedNodes) (digest : Digest) (node : Node) → node_under (with_node cache digest node) digest ≡ Some node }
-    ensures others { (cache : CachedNodes) (digest other : Digest) (node found : Node) → node_under (with_node cache digest node) other ≡ Some found → ((other ≡ digest) × (found ≡ node)) ⊎ (node_under cache other ≡ Some found) }
+    ensures others { (cache : CachedNodes) (digest other : Digest) (node found : Node)
+        → node_under (with_node cache digest node) other ≡ Some found
+        → ((other ≡ digest) × (found ≡ node)) ⊎ (node_under cache other ≡ Some found) }
 {}

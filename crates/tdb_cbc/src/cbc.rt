@@ -1,6 +1,7 @@
 //! Texts sealed and opened.
 
-ghost use Rattle.std.specs.Prelude.{◌≡◌, ◌↔◌, ℕ, ◌+◌, ◌*◌, ◌/◌, ◌<◌, ◌≤◌, ◌++◌, List, IfOk, IsErrOf, OnErr, is_ok, if◌then◌else◌, length, vec_capacity, vec_len};
+ghost use Rattle.std.specs.Prelude.{◌≡◌, ◌↔◌, ℕ, ◌+◌, ◌*◌, ◌/◌, ◌<◌, ◌≤◌, ◌++◌, List, IfOk, IsErrOf, OnErr, is_ok};
+ghost use Rattle.std.specs.Prelude.{if◌then◌else◌, length, vec_capacity, vec_len};
 ghost use Rattle.tdb_cbc.specs.Blocks.{joined};
 ghost use Rattle.tdb_cbc.specs.Cbc.{plain_block};
 ghost use Rattle.tdb_cbc.specs.Sealed.{HasNoWholeBlocks, Opens, sealed};

@@ -64,6 +64,7 @@ impl<'a> HeldFile<'a> {
         }
         let path = fs::canonicalize(rt, self.name)?;
         match path.parent() {
+            // Else a stop could take a new file away, with what was synced into it. No test can see this sync.
             Some(folder) => File::open(rt, folder)?.sync_all(),
             None => Ok(()),
         }

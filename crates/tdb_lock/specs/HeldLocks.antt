@@ -17,7 +17,8 @@ id_cmp a b = ordering_then (nat_cmp a.part.0 b.part.0) (nat_cmp a.rank.0 b.rank.
 abbrev pub claim_cmp : Id × TxId → Id × TxId → Ordering
 claim_cmp a b = ordering_then (id_cmp a.0 b.0) (nat_cmp a.1.0 b.1.0)
 
--- The set of all locks that are held. At an object and a transaction that holds no lock on it there is nothing, else whether the lock is exclusive.
+-- The set of all locks that are held. At an object and a transaction that holds no lock on it there is nothing, else
+-- whether the lock is exclusive.
 abbrev pub HeldLocks : Type 0
 HeldLocks = FinMap claim_cmp Bool
 

@@ -11,6 +11,7 @@ ghost use Rattle.tdb_lock.specs.HeldLocks.{HeldLocks, with_lock, without_locks_o
 /// each lock that is given, and each that is given back, keeps it so.
 pub fn locks_stay_exclusive()
     ensures none { AreExclusive empty }
-    ensures given { (locks : HeldLocks) (tx : TxId) (id : Id) (exclusive : Bool) → IsFree locks tx id exclusive → AreExclusive locks → AreExclusive (with_lock locks tx id exclusive) }
+    ensures given { (locks : HeldLocks) (tx : TxId) (id : Id) (exclusive : Bool) → IsFree locks tx id exclusive → AreExclusive locks
+        → AreExclusive (with_lock locks tx id exclusive) }
     ensures given_back { (locks : HeldLocks) (tx : TxId) → AreExclusive locks → AreExclusive (without_locks_of tx locks) }
 {}

@@ -1,5 +1,6 @@
 -- The chain of commit texts that ends at an anchor.
-use Rattle.std.specs.Prelude.{ℕ, zero, suc, Bool, true, ◌+◌, ◌&&◌, ◌==◌, List, [], ◌∷◌, ◌++◌, replicate, Option, Some, None, option_and_then, if◌then◌else◌}
+use Rattle.std.specs.Prelude.{ℕ, zero, suc, Bool, true, ◌+◌, ◌&&◌, ◌==◌, List, [], ◌∷◌, ◌++◌, replicate, Option, Some}
+use Rattle.std.specs.Prelude.{None, option_and_then, if◌then◌else◌}
 use Rattle.std.specs.Str.{bytes_eq}
 use Rattle.tdb_base.specs.Trace.{WrittenPiece}
 use Rattle.tdb_mark.specs.declared.commit.Commit.{Commit}

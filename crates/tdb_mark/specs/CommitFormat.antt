@@ -1,5 +1,6 @@
 -- The ranges of a commit's fields.
-use Rattle.std.specs.Prelude.{◌≡◌, ◌⊎◌, ◌<◌, ◌≤◌, ◌^◌, Bool, true, ◌&&◌, ◌||◌, ◌==◌, nat_lt, nat_le, length, Option, Some, None, IsNone, is_none, IfSome}
+use Rattle.std.specs.Prelude.{◌≡◌, ◌⊎◌, ◌<◌, ◌≤◌, ◌^◌, Bool, true, ◌&&◌, ◌||◌, ◌==◌, nat_lt, nat_le, length, Option}
+use Rattle.std.specs.Prelude.{Some, None, IsNone, is_none, IfSome}
 use Rattle.tdb_base.specs.declared.piece.Piece.{Piece}
 use Rattle.tdb_base.specs.PieceBytes.{IsPieceValue}
 use Rattle.tdb_base.specs.Segment.{LiesInOneSegment, lies_in_one_segment}
@@ -33,4 +34,5 @@ root_lies None = true
 root_lies (Some p) = lies_in_one_segment p
 
 abbrev pub is_in_format : Commit → Bool
-is_in_format c = nat_le 1 c.base && kind_fits c && nat_le 16 c.segments && nat_le c.segments 4096 && lies_in_one_segment c.first && root_lies c.root
+is_in_format c = nat_le 1 c.base && kind_fits c && nat_le 16 c.segments && nat_le c.segments 4096 && lies_in_one_segment c.first
+    && root_lies c.root

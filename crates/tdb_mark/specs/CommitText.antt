@@ -1,5 +1,6 @@
 -- The text of a commit, 256 bytes.
-use Rattle.std.specs.Prelude.{◌≡◌, ℕ, ◌&&◌, ◌==◌, List, ◌++◌, length, take, drop, replicate, codes, Option, Some, None, if◌then◌else◌, option_and_then}
+use Rattle.std.specs.Prelude.{◌≡◌, ℕ, ◌&&◌, ◌==◌, List, ◌++◌, length, take, drop, replicate, codes, Option, Some, None}
+use Rattle.std.specs.Prelude.{if◌then◌else◌, option_and_then}
 use Rattle.std.specs.Int.{w32, w64, to_be_bytes, from_be_bytes}
 use Rattle.std.specs.Str.{bytes_eq}
 use Rattle.tdb_base.specs.declared.suite.Suite.{Suite}
@@ -57,5 +58,6 @@ if_spelled key bytes c = if is_in_format c && bytes_eq (commit_text key c) bytes
 -- the commit whose text the bytes are, if they are one
 unfoldable pub commit_of : List ℕ → List ℕ → Option Commit
 commit_of key bytes = if length bytes == 256
-    then option_and_then (λ suite. if_spelled key bytes (commit_from bytes suite)) (suite_of_number (from_be_bytes w32 (take 4 (drop 12 bytes))))
+    then option_and_then (λ suite. if_spelled key bytes (commit_from bytes suite))
+    (suite_of_number (from_be_bytes w32 (take 4 (drop 12 bytes))))
     else None

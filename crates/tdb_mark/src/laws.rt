@@ -10,15 +10,18 @@ ghost use Rattle.tdb_mark.specs.Unforged.{IsUnforged, WasWritten, WasRead};
 
 /// Two commits with one text are one.
 pub fn commit_has_one_text()
-    ensures { (key : List ℕ) (one other : Commit) → IsCommitValue one → IsCommitValue other → commit_text key one ≡ commit_text key other → one ≡ other }
+    ensures { (key : List ℕ) (one other : Commit) → IsCommitValue one → IsCommitValue other
+        → commit_text key one ≡ commit_text key other → one ≡ other }
 {}
 
 /// A text whose count is the next and whose `prev` is the chain's mark makes the chain longer by
 /// itself, as soon as it was written.
 pub fn chain_goes_on()
-    ensures { (trace : Trace) (at : ℕ) (text : List ℕ) (grammar : List ℕ → Option Commit) (commit : Commit) (count : ℕ) (mark : List ℕ) (chain : List Commit) →
+    ensures { (trace : Trace) (at : ℕ) (text : List ℕ) (grammar : List ℕ → Option Commit)
+        (commit : Commit) (count : ℕ) (mark : List ℕ) (chain : List Commit) →
         IsUnforged (with_written trace at text) grammar →
-        commit_chain trace.written grammar count mark ≡ Some chain → grammar text ≡ Some commit → commit.prev.0 ≡ mark → follows count commit ≡ true →
+        commit_chain trace.written grammar count mark ≡ Some chain → grammar text ≡ Some commit → commit.prev.0 ≡ mark →
+        follows count commit ≡ true →
         commit_chain (with_written trace at text).written grammar (count + 1) (sha256 text) ≡ Some (chain ++ commit ∷ []) }
 {}
 
@@ -30,5 +33,6 @@ pub fn read_piece_was_written()
 
 /// A trace that is unforged was so at each earlier moment.
 pub fn unforged_before()
-    ensures { (earlier later : Trace) (grammar : List ℕ → Option Commit) → IsNumbered earlier → Extends earlier later → IsUnforged later grammar → IsUnforged earlier grammar }
+    ensures { (earlier later : Trace) (grammar : List ℕ → Option Commit) → IsNumbered earlier → Extends earlier later
+        → IsUnforged later grammar → IsUnforged earlier grammar }
 {}

@@ -29,16 +29,20 @@ pub record LeavesOnly {D : Type 0} (outside : D → Outside) (crash_states : D �
   pub later : (outside old).clock ≤ (outside new).clock
   pub each : (i : List ℕ) (a : Anchor) → crash_states new (outside old).clock i a → P i a
   -- for a caller that began earlier
-  pub before : (t : ℕ) (i : List ℕ) (a : Anchor) → t ≤ (outside old).clock → crash_states new t i a → crash_states old t i a ⊎ crash_states new (outside old).clock i a
+  pub before : (t : ℕ) (i : List ℕ) (a : Anchor) → t ≤ (outside old).clock → crash_states new t i a
+      → crash_states old t i a ⊎ crash_states new (outside old).clock i a
   pub keeps : (t : ℕ) (i : List ℕ) (a : Anchor) → t ≤ (outside old).clock → crash_states old t i a → crash_states new t i a
 
 -- Since the start of a call a stop leaves nothing that one could not leave at the start.
 abbrev pub LeavesNothing : {D : Type 0} → (D → Outside) → (D → CrashStates) → D → D → Type 0
-LeavesNothing outside crash_states old new = (i : List ℕ) (a : Anchor) → crash_states new (outside old).clock i a → now outside crash_states old i a
+LeavesNothing outside crash_states old new = (i : List ℕ) (a : Anchor) → crash_states new (outside old).clock i a
+    → now outside crash_states old i a
 
--- There is a moment up to which a stop leaves nothing that one could not leave at the start, and from which on it leaves only pairs that have P.
+-- There is a moment up to which a stop leaves nothing that one could not leave at the start, and from which on it
+-- leaves only pairs that have P.
 pub record Settles {D : Type 0} (outside : D → Outside) (crash_states : D → CrashStates) (old new : D) (P : Pairs) : Type 0 where
   pub moment : ℕ
   pub later : ((outside old).clock ≤ moment) × (moment ≤ (outside new).clock)
-  pub first : (i : List ℕ) (a : Anchor) → crash_states new (outside old).clock i a → now outside crash_states old i a ⊎ crash_states new moment i a
+  pub first : (i : List ℕ) (a : Anchor) → crash_states new (outside old).clock i a
+      → now outside crash_states old i a ⊎ crash_states new moment i a
   pub rest : (i : List ℕ) (a : Anchor) → crash_states new moment i a → P i a

@@ -1,6 +1,7 @@
 -- A written piece stands at its place, and a write changes nothing else.
 use Rattle.std.proofs.Common.{◌≡◌, ⊎_elim, ℕ, ◌+◌, ◌-◌, ◌<◌, ◌≤◌, List, ◌++◌, length, take, drop, get_or, refl, sym, ◌∙◌, ap, arith}
-use Rattle.std.proofs.lemmas.List.{length-append, length-take, length-drop, length-replicate, get_or_append_left, get_or-append-add, get_or-drop}
+use Rattle.std.proofs.lemmas.List.{length-append, length-take, length-drop, length-replicate, get_or_append_left}
+use Rattle.std.proofs.lemmas.List.{get_or-append-add, get_or-drop}
 use Rattle.std.proofs.lemmas.Grind.{elements}
 use Rattle.std.specs.Prelude.{replicate}
 use Rattle.tdb_platform.specs.Image.{Holds, SameExcept, overwritten, written_over}
@@ -14,7 +15,12 @@ front gap image at = take at image ++ replicate (at - length image) gap
 
 length-front : (gap : ℕ) (image : List ℕ) (at : ℕ) → length (front gap image at) ≡ at
 unfolding front
-length-front gap image at = omega (arith, length-append (take at image) (replicate (at - length image) gap), length-take at image, length-replicate {A = ℕ} (at - length image) gap)
+length-front gap image at = omega (
+  arith,
+  length-append (take at image) (replicate (at - length image) gap),
+  length-take at image,
+  length-replicate {A = ℕ} (at - length image) gap,
+)
 
 get_or-front : (gap : ℕ) (image : List ℕ) (at k : ℕ) → k < at → k < length image → get_or (front gap image at) k 0 ≡ get_or image k 0
 unfolding front
@@ -39,7 +45,12 @@ module _ (gap : ℕ) (image : List ℕ) (at : ℕ) (piece : List ℕ) where
 
   length-written_over : length (written_over gap image at piece) ≡ at + length piece + (length image - (at + length piece))
   unfolding front rest
-  length-written_over = omega (arith, length-append (front gap image at ++ piece) rest, length-to_rest, length-drop (at + length piece) image)
+  length-written_over = omega (
+    arith,
+    length-append (front gap image at ++ piece) rest,
+    length-to_rest,
+    length-drop (at + length piece) image,
+  )
 
   before_piece : (k : ℕ) → k < length image → k < at → get_or (written_over gap image at piece) k 0 ≡ get_or image k 0
   unfolding front rest

@@ -6,7 +6,9 @@ use Rattle.tdb_base.proofs.Tracing.{numbered_written, numbered_read}
 use Rattle.tdb_platform.specs.Outside.{Anchor}
 use Rattle.tdb_platform.specs.ImageLaws.{overwritten_same, same_itself}
 use Rattle.tdb_platform.specs.CrashStates.{Pairs}
-use Rattle.tdb_platform.specs.Replay.{Event, Reads, Writes, Syncs, Asks, Advances, Fails, Replaces, Stops, Stand, stand_after, trace_after, pairs_after, Logged, stand_of, trace_of, pairs_of, at_first, short_after, Log, clock_of, LeftSince}
+use Rattle.tdb_platform.specs.Replay.{Event, Reads, Writes, Syncs, Asks, Advances, Fails, Replaces, Stops, Stand}
+use Rattle.tdb_platform.specs.Replay.{stand_after, trace_after, pairs_after, Logged, stand_of, trace_of, pairs_of}
+use Rattle.tdb_platform.specs.Replay.{at_first, short_after, Log, clock_of, LeftSince}
 
 pub left_earlier : (l : Log) (t u : ℕ) (i : List ℕ) (a : Anchor) → t ≤ u → LeftSince l u i a → LeftSince l t i a
 left_earlier l t u i a le s = record { made = s.made; within = s.within; reaches = omega (arith, le, s.reaches); left = s.left }
@@ -38,12 +40,15 @@ left_now l i a left = record {
   made = length l.calls;
   within = omega arith;
   reaches = omega (arith, short_after_all l.calls l.short);
-  left = subst (λ (cs : List Logged). pairs_of l.start (at_first l.start) cs i a) (sym (take_all (length l.calls) l.calls (omega arith))) left;
+  left = subst (λ (cs : List Logged). pairs_of l.start (at_first l.start) cs i a)
+      (sym (take_all (length l.calls) l.calls (omega arith))) left;
 }
 
-pub left_as_it_reads : (l : Log) (image : List ℕ) (anchor : Anchor) → (image, anchor) ≡ stand_of l.start l.calls → LeftSince l (clock_of l) image anchor
+pub left_as_it_reads : (l : Log) (image : List ℕ) (anchor : Anchor) → (image, anchor) ≡ stand_of l.start l.calls
+    → LeftSince l (clock_of l) image anchor
 left_as_it_reads l image anchor is =
-    left_now l image anchor (subst (λ (s : Stand). pairs_of l.start (at_first l.start) l.calls s.0 s.1) (sym is) (all_calls l.calls l.start (at_first l.start) (refl, refl)))
+    left_now l image anchor (subst (λ (s : Stand). pairs_of l.start (at_first l.start) l.calls s.0 s.1) (sym is)
+    (all_calls l.calls l.start (at_first l.start) (refl, refl)))
 
 numbered_one : (e : Event) (t : Trace) → IsNumbered t → IsNumbered (trace_after t e)
 numbered_one (Reads at asked bytes) t h = numbered_read t at asked bytes h

@@ -1,5 +1,6 @@
 // A device and an anchor in memory, with a log of their calls.
-ghost use Rattle.std.specs.Prelude.{◌≡◌, ◌+◌, ◌≤◌, ◌++◌, ◌∷◌, [], count_by, if◌then◌else◌, is_ok, length, take, drop, IfOk, OnOk, OnErr, min};
+ghost use Rattle.std.specs.Prelude.{◌≡◌, ◌+◌, ◌≤◌, ◌++◌, ◌∷◌, [], count_by, if◌then◌else◌, is_ok, length, take, drop};
+ghost use Rattle.std.specs.Prelude.{IfOk, OnOk, OnErr, min};
 ghost use Rattle.tdb_base.specs.declared.piece.TheConstants.{DEVICE_LIMIT};
 ghost use Rattle.tdb_platform.specs.Image.{overwritten};
 ghost use Rattle.tdb_platform.specs.Logs.{calls_of, event_of, gave, logged_of};
@@ -54,7 +55,8 @@ fn enter_write(
     short: u64,
 ) -> Result<(), AllocError>
     requires { at + length piece.now ≤ DEVICE_LIMIT }
-    ensures entries_ok { OnOk result (calls_of entries.new.items ≡ calls_of entries.old.items ++ record { event = Writes at piece.now failed; short = short } ∷ []) }
+    ensures entries_ok { OnOk result (calls_of entries.new.items ≡ calls_of entries.old.items
+        ++ record { event = Writes at piece.now failed; short = short } ∷ []) }
     ensures image_ok { OnOk result (image.new.items ≡ (if failed then image.old.items else overwritten image.old.items at piece.now)) }
     ensures entries_err { OnErr result (entries.new.items ≡ entries.old.items) }
     ensures image_err { OnErr result (image.new.items ≡ image.old.items) }
@@ -85,7 +87,8 @@ fn enter_replaced(
     short: u64,
 ) -> Result<(), AllocError>
     requires { at + length bytes.now ≤ DEVICE_LIMIT }
-    ensures entries_ok { OnOk result (calls_of entries.new.items ≡ calls_of entries.old.items ++ record { event = Replaces at bytes.now; short = short } ∷ []) }
+    ensures entries_ok { OnOk result (calls_of entries.new.items ≡ calls_of entries.old.items
+        ++ record { event = Replaces at bytes.now; short = short } ∷ []) }
     ensures image_ok { OnOk result (image.new.items ≡ overwritten image.old.items at bytes.now) }
     ensures entries_err { OnErr result (entries.new.items ≡ entries.old.items) }
     ensures image_err { OnErr result (image.new.items ≡ image.old.items) }

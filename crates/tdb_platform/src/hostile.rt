@@ -1,5 +1,6 @@
 // A platform in memory whose device shows other bytes than its own.
-ghost use Rattle.std.specs.Prelude.{◌≡◌, ◌⊎◌, ◌+◌, ◌≤◌, ◌==◌, [], false, find, option_map, IfOk, OnOk, OnErr, IsTrue, List, ℕ, length, take, drop, min};
+ghost use Rattle.std.specs.Prelude.{◌≡◌, ◌⊎◌, ◌+◌, ◌≤◌, ◌==◌, [], false, find, option_map, IfOk, OnOk, OnErr, IsTrue};
+ghost use Rattle.std.specs.Prelude.{List, ℕ, length, take, drop, min};
 ghost use Rattle.tdb_base.specs.declared.piece.TheConstants.{DEVICE_LIMIT};
 ghost use Rattle.tdb_base.specs.Trace.{with_read, with_written};
 ghost use Rattle.tdb_platform.specs.Outside.{Anchor, Told};
@@ -85,8 +86,10 @@ impl Platform for HostilePlatform {
     fn read(&mut self, at: u64, into: &mut [u8]) -> Result<usize, Failed>
         ensures count { IfOk result (λ n. n ≤ length into.old) }
         ensures rest { IfOk result (λ n. drop n into.new ≡ drop n into.old) }
-        ensures piece { IsTrue (outside self.old).honest → IfOk result (λ n. take n into.new ≡ take (length into.old) (drop at (outside self.old).image)) }
-        ensures trace { IsTrue (outside self.old).tells → IfOk result (λ n. (outside self.new).trace ≡ with_read (outside self.old).trace at (length into.old) (take n into.new)) }
+        ensures piece { IsTrue (outside self.old).honest
+            → IfOk result (λ n. take n into.new ≡ take (length into.old) (drop at (outside self.old).image)) }
+        ensures trace { IsTrue (outside self.old).tells
+            → IfOk result (λ n. (outside self.new).trace ≡ with_read (outside self.old).trace at (length into.old) (take n into.new)) }
         ensures trace_err { IsTrue (outside self.old).tells → OnErr result ((outside self.new).trace ≡ (outside self.old).trace) }
         ensures image { IsTrue (outside self.old).honest → (outside self.new).image ≡ (outside self.old).image }
         ensures anchor { IsTrue (outside self.old).tells → (outside self.new).anchor ≡ (outside self.old).anchor }
@@ -94,7 +97,8 @@ impl Platform for HostilePlatform {
         ensures time { Elapses (outside self.old) (outside self.new) (crash_states self.old) (crash_states self.new) }
         ensures told { Told (outside self.old) (outside self.new) result }
         ensures quiet { OnOk result ((outside self.new).faults ≡ (outside self.old).faults) }
-        ensures shown { IfOk result (λ n. take n into.new ≡ shown (given_answers self.old) (reads_asked self.new) (length into.old) (take (length into.old) (drop at (device_bytes self.old)))) }
+        ensures shown { IfOk result (λ n. take n into.new ≡ shown (given_answers self.old) (reads_asked self.new) (length into.old)
+            (take (length into.old) (drop at (device_bytes self.old)))) }
         ensures asked { reads_asked self.new ≡ min (reads_asked self.old + 1) 18446744073709551615 }
         ensures answers { given_answers self.new ≡ given_answers self.old }
         ensures stored { device_bytes self.new ≡ device_bytes self.old }
@@ -111,14 +115,21 @@ impl Platform for HostilePlatform {
 
     fn write(&mut self, at: u64, piece: &[u8]) -> Result<(), Failed>
         requires { at + length piece.now ≤ DEVICE_LIMIT }
-        ensures trace { IsTrue (outside self.old).tells → OnOk result ((outside self.new).trace ≡ with_written (outside self.old).trace at piece.now) }
-        ensures trace_err { IsTrue (outside self.old).tells → OnErr result (((outside self.new).trace ≡ with_written (outside self.old).trace at piece.now)
-            ⊎ (((outside self.new).trace ≡ (outside self.old).trace) × (IsTrue (outside self.old).honest → (outside self.new).image ≡ (outside self.old).image) × LeavesNoMore outside crash_states self.old self.new)) }
-        ensures written { IsTrue (outside self.old).honest → OnOk result ((outside self.new).image ≡ overwritten (outside self.old).image at piece.now) }
-        ensures image { IsTrue (outside self.old).honest → SameExcept at (length piece.now) (outside self.old).image (outside self.new).image }
+        ensures trace { IsTrue (outside self.old).tells
+            → OnOk result ((outside self.new).trace ≡ with_written (outside self.old).trace at piece.now) }
+        ensures trace_err { IsTrue (outside self.old).tells
+            → OnErr result (((outside self.new).trace ≡ with_written (outside self.old).trace at piece.now)
+            ⊎ (((outside self.new).trace ≡ (outside self.old).trace)
+            × (IsTrue (outside self.old).honest → (outside self.new).image ≡ (outside self.old).image)
+            × LeavesNoMore outside crash_states self.old self.new)) }
+        ensures written { IsTrue (outside self.old).honest
+            → OnOk result ((outside self.new).image ≡ overwritten (outside self.old).image at piece.now) }
+        ensures image { IsTrue (outside self.old).honest
+            → SameExcept at (length piece.now) (outside self.old).image (outside self.new).image }
         ensures anchor { IsTrue (outside self.old).tells → (outside self.new).anchor ≡ (outside self.old).anchor }
         ensures now { (i : List ℕ) (a : Anchor) → crash_states self.new (outside self.new).clock i a
-            → (was : List ℕ) × crash_states self.old (outside self.old).clock was a × (IsTrue (outside self.old).honest → SameExcept at (length piece.now) was i) }
+            → (was : List ℕ) × crash_states self.old (outside self.old).clock was a
+            × (IsTrue (outside self.old).honest → SameExcept at (length piece.now) was i) }
         ensures time { Elapses (outside self.old) (outside self.new) (crash_states self.old) (crash_states self.new) }
         ensures told { Told (outside self.old) (outside self.new) result }
         ensures quiet { OnOk result ((outside self.new).faults ≡ (outside self.old).faults) }
@@ -131,7 +142,8 @@ impl Platform for HostilePlatform {
     }
 
     fn sync(&mut self) -> Result<(), Failed>
-        ensures durable { IsTrue (outside self.old).honest → OnOk result ((i : List ℕ) (a : Anchor) → crash_states self.new (outside self.new).clock i a → i ≡ (outside self.new).image) }
+        ensures durable { IsTrue (outside self.old).honest
+            → OnOk result ((i : List ℕ) (a : Anchor) → crash_states self.new (outside self.new).clock i a → i ≡ (outside self.new).image) }
         ensures trace { IsTrue (outside self.old).tells → (outside self.new).trace ≡ (outside self.old).trace }
         ensures image { IsTrue (outside self.old).honest → (outside self.new).image ≡ (outside self.old).image }
         ensures anchor { IsTrue (outside self.old).tells → (outside self.new).anchor ≡ (outside self.old).anchor }
@@ -148,7 +160,8 @@ impl Platform for HostilePlatform {
 
     fn anchor(&mut self) -> Result<(u64, [u8; 32]), Failed>
         ensures given { IsTrue (outside self.old).tells → IfOk result (λ given. given ≡ (outside self.old).anchor) }
-        ensures settled { IsTrue (outside self.old).tells → OnOk result ((i : List ℕ) (a : Anchor) → crash_states self.new (outside self.new).clock i a → a ≡ (outside self.new).anchor) }
+        ensures settled { IsTrue (outside self.old).tells
+            → OnOk result ((i : List ℕ) (a : Anchor) → crash_states self.new (outside self.new).clock i a → a ≡ (outside self.new).anchor) }
         ensures trace { IsTrue (outside self.old).tells → (outside self.new).trace ≡ (outside self.old).trace }
         ensures image { IsTrue (outside self.old).honest → (outside self.new).image ≡ (outside self.old).image }
         ensures anchor { IsTrue (outside self.old).tells → (outside self.new).anchor ≡ (outside self.old).anchor }
@@ -166,8 +179,10 @@ impl Platform for HostilePlatform {
     fn advance(&mut self, count: u64, mark: &[u8; 32]) -> Result<(), Failed>
         requires { IsTrue (outside self.old).tells → count ≡ (outside self.old).anchor.0 + 1 }
         ensures advanced { IsTrue (outside self.old).tells → OnOk result ((outside self.new).anchor ≡ (count, mark.now)) }
-        ensures only { IsTrue (outside self.old).tells → OnOk result ((i : List ℕ) (a : Anchor) → crash_states self.new (outside self.new).clock i a → a ≡ (count, mark.now)) }
-        ensures either { IsTrue (outside self.old).tells → OnErr result (((outside self.new).anchor ≡ (outside self.old).anchor) ⊎ ((outside self.new).anchor ≡ (count, mark.now))) }
+        ensures only { IsTrue (outside self.old).tells
+            → OnOk result ((i : List ℕ) (a : Anchor) → crash_states self.new (outside self.new).clock i a → a ≡ (count, mark.now)) }
+        ensures either { IsTrue (outside self.old).tells
+            → OnErr result (((outside self.new).anchor ≡ (outside self.old).anchor) ⊎ ((outside self.new).anchor ≡ (count, mark.now))) }
         ensures trace { IsTrue (outside self.old).tells → (outside self.new).trace ≡ (outside self.old).trace }
         ensures image { IsTrue (outside self.old).honest → (outside self.new).image ≡ (outside self.old).image }
         ensures now { (i : List ℕ) (a : Anchor) → crash_states self.new (outside self.new).clock i a

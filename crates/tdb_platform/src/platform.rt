@@ -25,8 +25,10 @@ pub trait Platform {
     fn read(&mut self, at: u64, into: &mut [u8]) -> Result<usize, Failed>
         ensures count { IfOk result (λ n. n ≤ length into.old) }
         ensures rest { IfOk result (λ n. drop n into.new ≡ drop n into.old) }
-        ensures piece { IsTrue (outside self.old).honest → IfOk result (λ n. take n into.new ≡ take (length into.old) (drop at (outside self.old).image)) }
-        ensures trace { IsTrue (outside self.old).tells → IfOk result (λ n. (outside self.new).trace ≡ with_read (outside self.old).trace at (length into.old) (take n into.new)) }
+        ensures piece { IsTrue (outside self.old).honest
+            → IfOk result (λ n. take n into.new ≡ take (length into.old) (drop at (outside self.old).image)) }
+        ensures trace { IsTrue (outside self.old).tells
+            → IfOk result (λ n. (outside self.new).trace ≡ with_read (outside self.old).trace at (length into.old) (take n into.new)) }
         ensures trace_err { IsTrue (outside self.old).tells → OnErr result ((outside self.new).trace ≡ (outside self.old).trace) }
         ensures image { IsTrue (outside self.old).honest → (outside self.new).image ≡ (outside self.old).image }
         ensures anchor { IsTrue (outside self.old).tells → (outside self.new).anchor ≡ (outside self.old).anchor }
@@ -40,21 +42,29 @@ pub trait Platform {
     /// A failed write may have changed any of these bytes, or have touched nothing.
     fn write(&mut self, at: u64, piece: &[u8]) -> Result<(), Failed>
         requires { at + length piece.now ≤ DEVICE_LIMIT }
-        ensures trace { IsTrue (outside self.old).tells → OnOk result ((outside self.new).trace ≡ with_written (outside self.old).trace at piece.now) }
-        ensures trace_err { IsTrue (outside self.old).tells → OnErr result (((outside self.new).trace ≡ with_written (outside self.old).trace at piece.now)
-            ⊎ (((outside self.new).trace ≡ (outside self.old).trace) × (IsTrue (outside self.old).honest → (outside self.new).image ≡ (outside self.old).image) × LeavesNoMore outside crash_states self.old self.new)) }
-        ensures written { IsTrue (outside self.old).honest → OnOk result ((outside self.new).image ≡ overwritten (outside self.old).image at piece.now) }
-        ensures image { IsTrue (outside self.old).honest → SameExcept at (length piece.now) (outside self.old).image (outside self.new).image }
+        ensures trace { IsTrue (outside self.old).tells
+            → OnOk result ((outside self.new).trace ≡ with_written (outside self.old).trace at piece.now) }
+        ensures trace_err { IsTrue (outside self.old).tells
+            → OnErr result (((outside self.new).trace ≡ with_written (outside self.old).trace at piece.now)
+            ⊎ (((outside self.new).trace ≡ (outside self.old).trace)
+            × (IsTrue (outside self.old).honest → (outside self.new).image ≡ (outside self.old).image)
+            × LeavesNoMore outside crash_states self.old self.new)) }
+        ensures written { IsTrue (outside self.old).honest
+            → OnOk result ((outside self.new).image ≡ overwritten (outside self.old).image at piece.now) }
+        ensures image { IsTrue (outside self.old).honest
+            → SameExcept at (length piece.now) (outside self.old).image (outside self.new).image }
         ensures anchor { IsTrue (outside self.old).tells → (outside self.new).anchor ≡ (outside self.old).anchor }
         ensures now { (i : List ℕ) (a : Anchor) → crash_states self.new (outside self.new).clock i a
-            → (was : List ℕ) × crash_states self.old (outside self.old).clock was a × (IsTrue (outside self.old).honest → SameExcept at (length piece.now) was i) }
+            → (was : List ℕ) × crash_states self.old (outside self.old).clock was a
+            × (IsTrue (outside self.old).honest → SameExcept at (length piece.now) was i) }
         ensures time { Elapses (outside self.old) (outside self.new) (crash_states self.old) (crash_states self.new) }
         ensures told { Told (outside self.old) (outside self.new) result }
         ensures quiet { OnOk result ((outside self.new).faults ≡ (outside self.old).faults) };
 
     /// Makes sure of what was written: a stop then leaves what a read gives.
     fn sync(&mut self) -> Result<(), Failed>
-        ensures durable { IsTrue (outside self.old).honest → OnOk result ((i : List ℕ) (a : Anchor) → crash_states self.new (outside self.new).clock i a → i ≡ (outside self.new).image) }
+        ensures durable { IsTrue (outside self.old).honest
+            → OnOk result ((i : List ℕ) (a : Anchor) → crash_states self.new (outside self.new).clock i a → i ≡ (outside self.new).image) }
         ensures trace { IsTrue (outside self.old).tells → (outside self.new).trace ≡ (outside self.old).trace }
         ensures image { IsTrue (outside self.old).honest → (outside self.new).image ≡ (outside self.old).image }
         ensures anchor { IsTrue (outside self.old).tells → (outside self.new).anchor ≡ (outside self.old).anchor }
@@ -67,7 +77,8 @@ pub trait Platform {
     /// until the next advance a stop leaves the anchor that it gave.
     fn anchor(&mut self) -> Result<(u64, [u8; 32]), Failed>
         ensures given { IsTrue (outside self.old).tells → IfOk result (λ given. given ≡ (outside self.old).anchor) }
-        ensures settled { IsTrue (outside self.old).tells → OnOk result ((i : List ℕ) (a : Anchor) → crash_states self.new (outside self.new).clock i a → a ≡ (outside self.new).anchor) }
+        ensures settled { IsTrue (outside self.old).tells
+            → OnOk result ((i : List ℕ) (a : Anchor) → crash_states self.new (outside self.new).clock i a → a ≡ (outside self.new).anchor) }
         ensures trace { IsTrue (outside self.old).tells → (outside self.new).trace ≡ (outside self.old).trace }
         ensures image { IsTrue (outside self.old).honest → (outside self.new).image ≡ (outside self.old).image }
         ensures anchor { IsTrue (outside self.old).tells → (outside self.new).anchor ≡ (outside self.old).anchor }
@@ -81,8 +92,10 @@ pub trait Platform {
     fn advance(&mut self, count: u64, mark: &[u8; 32]) -> Result<(), Failed>
         requires { IsTrue (outside self.old).tells → count ≡ (outside self.old).anchor.0 + 1 }
         ensures advanced { IsTrue (outside self.old).tells → OnOk result ((outside self.new).anchor ≡ (count, mark.now)) }
-        ensures only { IsTrue (outside self.old).tells → OnOk result ((i : List ℕ) (a : Anchor) → crash_states self.new (outside self.new).clock i a → a ≡ (count, mark.now)) }
-        ensures either { IsTrue (outside self.old).tells → OnErr result (((outside self.new).anchor ≡ (outside self.old).anchor) ⊎ ((outside self.new).anchor ≡ (count, mark.now))) }
+        ensures only { IsTrue (outside self.old).tells
+            → OnOk result ((i : List ℕ) (a : Anchor) → crash_states self.new (outside self.new).clock i a → a ≡ (count, mark.now)) }
+        ensures either { IsTrue (outside self.old).tells
+            → OnErr result (((outside self.new).anchor ≡ (outside self.old).anchor) ⊎ ((outside self.new).anchor ≡ (count, mark.now))) }
         ensures trace { IsTrue (outside self.old).tells → (outside self.new).trace ≡ (outside self.old).trace }
         ensures image { IsTrue (outside self.old).honest → (outside self.new).image ≡ (outside self.old).image }
         ensures now { (i : List ℕ) (a : Anchor) → crash_states self.new (outside self.new).clock i a
@@ -92,10 +105,12 @@ pub trait Platform {
         ensures quiet { OnOk result ((outside self.new).faults ≡ (outside self.old).faults) };
 
     /// What a stop since a later moment may leave, one since an earlier moment may leave too.
-    ghost counts: { (p : Self) (t u : ℕ) (i : List ℕ) (a : Anchor) → t ≤ u → u ≤ (outside p).clock → crash_states p u i a → crash_states p t i a };
+    ghost counts: { (p : Self) (t u : ℕ) (i : List ℕ) (a : Anchor) → t ≤ u → u ≤ (outside p).clock → crash_states p u i a
+        → crash_states p t i a };
 
     /// An honest device as it reads, with its anchor, is one of the pairs that a stop may leave now.
-    ghost as_it_reads: { (p : Self) → IsTrue (outside p).honest → IsTrue (outside p).tells → crash_states p (outside p).clock (outside p).image (outside p).anchor };
+    ghost as_it_reads: { (p : Self) → IsTrue (outside p).honest → IsTrue (outside p).tells
+        → crash_states p (outside p).clock (outside p).image (outside p).anchor };
 
     /// The trace has no call with a number that is still to come.
     ghost numbered: { (p : Self) → IsTrue (outside p).tells → IsNumbered (outside p).trace };

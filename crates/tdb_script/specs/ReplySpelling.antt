@@ -1,7 +1,10 @@
 -- The replies to lines, as they are written.
 use Rattle.std.specs.Prelude.{ℕ, List, [], ◌∷◌, ◌++◌, codes, decimal}
 use Rattle.tdb_script.specs.declared.reply.Reply.{Reply}
-use Rattle.tdb_script.specs.declared.reply.Reply.TheVariants.{Begun, Made, Got, Aborted, Committed, Bye, RefusedUnbuilt, RefusedNoTransaction, RefusedOpen, RefusedNoObject, RefusedPickle, RefusedIds, RefusedChanges, RefusedFull, RefusedRing, RefusedCounter, Tampered}
+use Rattle.tdb_script.specs.declared.reply.Reply.TheVariants.{Begun, Made, Got, Aborted, Committed, Bye, RefusedUnbuilt}
+use Rattle.tdb_script.specs.declared.reply.Reply.TheVariants.{RefusedNoTransaction, RefusedOpen, RefusedNoObject}
+use Rattle.tdb_script.specs.declared.reply.Reply.TheVariants.{RefusedPickle, RefusedIds, RefusedChanges, RefusedFull}
+use Rattle.tdb_script.specs.declared.reply.Reply.TheVariants.{RefusedRing, RefusedCounter, Tampered}
 
 -- a reply without its line feed
 abbrev pub reply_text : Reply → List ℕ

@@ -13,7 +13,8 @@ use Rattle.tdb_seal.specs.InitialVector.{initial_vector}
 -- the first 32 bytes: the magic, what the record is, and the lengths of its plain text and of its body
 unfoldable pub record_head : Name → ℕ → ℕ → List ℕ
 record_head name plain_length body_length =
-    codes "TDBREC01" ++ to_be_bytes w32 name.kind ++ to_be_bytes w32 (suite_number name.suite) ++ to_be_bytes w32 name.home ++ to_be_bytes w32 name.rank
+    codes "TDBREC01" ++ to_be_bytes w32 name.kind ++ to_be_bytes w32 (suite_number name.suite) ++ to_be_bytes w32 name.home
+    ++ to_be_bytes w32 name.rank
     ++ to_be_bytes w32 plain_length ++ to_be_bytes w32 body_length
 
 -- a record that isn't enciphered: its initial vector is zero, and its body is the plain text

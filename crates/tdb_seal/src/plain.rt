@@ -21,7 +21,8 @@ pub(crate) fn seal_plain(alloc: Global, name: &Name, plain: &[u8]) -> Result<Vec
 
 /// The plain text of a record, in memory of its own.
 pub(crate) fn read_plain(alloc: Global, name: &Name, bytes: &[u8]) -> Result<Vec<u8>, SealError>
-    ensures found { IfOk result (λ plain. AreBytes plain.items × (length plain.items ≤ PLAIN_LIMIT) × (bytes.now ≡ plain_record name.now plain.items)) }
+    ensures found { IfOk result (λ plain. AreBytes plain.items × (length plain.items ≤ PLAIN_LIMIT)
+        × (bytes.now ≡ plain_record name.now plain.items)) }
     ensures form { result ≡ Err Form → (plain : List ℕ) → length plain ≤ PLAIN_LIMIT → bytes.now ≡ plain_record name.now plain → ⊥ }
 {
     let Some(plain) = open_plain(name, bytes) else {

@@ -1,5 +1,6 @@
 -- The segments of a device, those in use, and where the next piece goes.
-use Rattle.std.specs.Prelude.{◌≡◌, ℕ, ◌+◌, ◌-◌, ◌*◌, ◌/◌, ◌%◌, ◌<◌, ◌≤◌, not, nat_lt, nat_le, IsTrue, List, [], ◌∷◌, length, if◌then◌else◌, Option, Some, None, Result, Ok, Err}
+use Rattle.std.specs.Prelude.{◌≡◌, ℕ, ◌+◌, ◌-◌, ◌*◌, ◌/◌, ◌%◌, ◌<◌, ◌≤◌, not, nat_lt, nat_le, IsTrue, List, [], ◌∷◌}
+use Rattle.std.specs.Prelude.{length, if◌then◌else◌, Option, Some, None, Result, Ok, Err}
 use Rattle.std.specs.List.{filter, range_with_len}
 use Rattle.std.specs.Ordering.{nat_cmp}
 use Rattle.std.specs.FinSet.{FinSet, contains, insert, empty}
@@ -108,7 +109,8 @@ then_place place (Ok rest) = Ok (place ∷ rest.0, rest.1)
 then_place place (Err refusal) = Err refusal
 
 -- what comes of a list whose first piece was placed so
-abbrev pub then_fit : (SegmentSpace → Result (List Place × SegmentSpace) NoRoom) → Result (Place × SegmentSpace) NoRoom → Result (List Place × SegmentSpace) NoRoom
+abbrev pub then_fit : (SegmentSpace → Result (List Place × SegmentSpace) NoRoom) → Result (Place × SegmentSpace) NoRoom
+    → Result (List Place × SegmentSpace) NoRoom
 then_fit rest (Ok first) = then_place first.0 (rest first.1)
 then_fit rest (Err refusal) = Err refusal
 

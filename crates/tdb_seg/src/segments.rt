@@ -3,7 +3,9 @@ ghost use Rattle.std.specs.Prelude.{◌≡◌, ◌↔◌, ℕ, ◌+◌, ◌*◌,
 ghost use Rattle.std.specs.FinSet as set;
 ghost use Rattle.tdb_base.specs.Segment.{LiesInSegment};
 ghost use Rattle.tdb_node.specs.SegmentTable.{IsTable, IsUsed};
-ghost use Rattle.tdb_seg.specs.SegmentSpace.{IsSegmentSpace, EndsInSegment, fresh_space, free_segments, free_count, bytes_left, at_free_segment, next_place as next_place_in, place_in, with_bytes, note_in};
+ghost use Rattle.tdb_seg.specs.SegmentSpace.{IsSegmentSpace, EndsInSegment, fresh_space, free_segments, free_count};
+ghost use Rattle.tdb_seg.specs.SegmentSpace.{bytes_left, at_free_segment, next_place as next_place_in, place_in};
+ghost use Rattle.tdb_seg.specs.SegmentSpace.{with_bytes, note_in};
 ghost use Rattle.tdb_seg.specs.TableSpace.{used_in, table_space};
 
 use crate::used::{count_unused, has_segment, known_words, least_unused, use_segment};

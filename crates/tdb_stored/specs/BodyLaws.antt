@@ -40,15 +40,18 @@ ranks_free = record { one = one_rank }
 ended : (a b : List ℕ) → a ≡ b → a ++ [] ≡ b ++ []
 ended a b e = ap (λ (l : List ℕ). l ++ []) e
 
-pub same_entries : (limit : ℕ) (a b : List Pair) (r s : List ℕ) → limit < 2 ^ 32 → IsEntries limit a → IsEntries limit b → entries_bytes a ++ r ≡ entries_bytes b ++ s → (a ≡ b) × (r ≡ s)
+pub same_entries : (limit : ℕ) (a b : List Pair) (r s : List ℕ) → limit < 2 ^ 32 → IsEntries limit a → IsEntries limit b
+    → entries_bytes a ++ r ≡ entries_bytes b ++ s → (a ≡ b) × (r ≡ s)
 same_entries limit a b r s fits is_a is_b e = same_counted pairs_free limit a b r s fits (is_a.values, is_a.size) (is_b.values, is_b.size) e
 
-pub one_entries : (limit : ℕ) (a b : List Pair) → limit < 2 ^ 32 → IsEntries limit a → IsEntries limit b → entries_bytes a ≡ entries_bytes b → a ≡ b
+pub one_entries : (limit : ℕ) (a b : List Pair) → limit < 2 ^ 32 → IsEntries limit a → IsEntries limit b
+    → entries_bytes a ≡ entries_bytes b → a ≡ b
 one_entries limit a b fits is_a is_b e = (same_entries limit a b [] [] fits is_a is_b (ended (entries_bytes a) (entries_bytes b) e)).0
 
 pub one_catalog : (a b : List Listed) → IsCatalog a → IsCatalog b → catalog_bytes a ≡ catalog_bytes b → a ≡ b
 one_catalog a b is_a is_b e =
-    (same_counted listed_free 16 a b [] [] (omega arith) (is_a.values, is_a.size) (is_b.values, is_b.size) (ended (catalog_bytes a) (catalog_bytes b) e)).0
+    (same_counted listed_free 16 a b [] [] (omega arith) (is_a.values, is_a.size) (is_b.values, is_b.size)
+    (ended (catalog_bytes a) (catalog_bytes b) e)).0
 
 head_of : ℕ → List Indexed → HeadFields
 head_of class indexes = record { class = class; indexes = indexes }
@@ -57,11 +60,13 @@ pub one_head : (a b : HeadFields) → IsHead a → IsHead b → head_bytes a ≡
 unfolding head_of
 one_head a b is_a is_b e =
     let class = same_u32 a.class b.class _ _ is_a.class is_b.class e in
-    let indexes = same_counted indexed_free 4 a.indexes b.indexes [] [] (omega arith) (is_a.values, is_a.indexes.size) (is_b.values, is_b.indexes.size) (ended _ _ class.1) in
+    let indexes = same_counted indexed_free 4 a.indexes b.indexes [] [] (omega arith) (is_a.values, is_a.indexes.size)
+    (is_b.values, is_b.indexes.size) (ended _ _ class.1) in
     let same : head_of a.class a.indexes ≡ head_of b.class b.indexes = cc (class.0, indexes.0) in
     same
 
-one_ranks : (a b : List ℕ) → AreRanks a → AreRanks b → length a ≡ length b → flat_map (to_be_bytes w32) a ≡ flat_map (to_be_bytes w32) b → a ≡ b
+one_ranks : (a b : List ℕ) → AreRanks a → AreRanks b → length a ≡ length b
+    → flat_map (to_be_bytes w32) a ≡ flat_map (to_be_bytes w32) b → a ≡ b
 one_ranks a b is_a is_b same e = (same_items ranks_free a b [] [] is_a is_b same (ended _ _ e)).0
 
 inner_of : List Pair → List ℕ → InnerFields
@@ -72,15 +77,19 @@ unfolding inner_of
 one_inner a b is_a is_b e =
     let separators = same_entries 32 a.separators b.separators _ _ (omega arith) is_a.separators is_b.separators e in
     let sizes : length a.separators ≡ length b.separators = ap (λ (l : List Pair). length l) separators.0 in
-    let children = one_ranks a.children b.children is_a.children is_b.children (omega (arith, is_a.count, is_b.count, sizes)) separators.1 in
+    let children = one_ranks a.children b.children is_a.children is_b.children
+    (omega (arith, is_a.count, is_b.count, sizes)) separators.1 in
     let same : inner_of a.separators a.children ≡ inner_of b.separators b.children = cc (separators.0, children) in
     same
 
 pub one_node : (a b : TreeNode) → IsTreeNode a → IsTreeNode b → node_bytes a ≡ node_bytes b → a ≡ b
-one_node (Leaf a) (Leaf b) is_a is_b e = ap Leaf (one_entries 32 a b (omega arith) is_a is_b (same_u32 0 0 _ _ (omega arith) (omega arith) e).1)
+one_node (Leaf a) (Leaf b) is_a is_b e =
+    ap Leaf (one_entries 32 a b (omega arith) is_a is_b (same_u32 0 0 _ _ (omega arith) (omega arith) e).1)
 one_node (Inner a) (Inner b) is_a is_b e = ap Inner (one_inner a b is_a is_b (same_u32 1 1 _ _ (omega arith) (omega arith) e).1)
-one_node (Leaf a) (Inner b) is_a is_b e = absurd (omega (arith, (same_u32 0 1 (entries_bytes a) (inner_bytes b) (omega arith) (omega arith) e).0))
-one_node (Inner a) (Leaf b) is_a is_b e = absurd (omega (arith, (same_u32 1 0 (inner_bytes a) (entries_bytes b) (omega arith) (omega arith) e).0))
+one_node (Leaf a) (Inner b) is_a is_b e =
+    absurd (omega (arith, (same_u32 0 1 (entries_bytes a) (inner_bytes b) (omega arith) (omega arith) e).0))
+one_node (Inner a) (Leaf b) is_a is_b e =
+    absurd (omega (arith, (same_u32 1 0 (inner_bytes a) (entries_bytes b) (omega arith) (omega arith) e).0))
 
 directory_of : ℕ → ℕ → ℕ → List ℕ → DirectoryFields
 directory_of level split entries buckets = record { level = level; split = split; entries = entries; buckets = buckets }
@@ -101,7 +110,8 @@ one_directory a b is_a is_b e =
     let powers : 2 ^ a.level ≡ 2 ^ b.level = ap (λ (n : ℕ). 2 ^ n) level.0 in
     let sizes : length a.buckets ≡ length b.buckets = omega (arith, is_a.count.count_is, is_b.count.count_is, powers, split.0) in
     let buckets = one_ranks a.buckets b.buckets is_a.buckets is_b.buckets sizes entries.1 in
-    let same : directory_of a.level a.split a.entries a.buckets ≡ directory_of b.level b.split b.entries b.buckets = cc (level.0, split.0, entries.0, buckets) in
+    let same : directory_of a.level a.split a.entries a.buckets ≡ directory_of b.level b.split b.entries b.buckets =
+    cc (level.0, split.0, entries.0, buckets) in
     same
 
 pub one_bucket : (a b : Bucket) → IsBucket a → IsBucket b → bucket_bytes a ≡ bucket_bytes b → a ≡ b

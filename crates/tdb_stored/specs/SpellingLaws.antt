@@ -14,7 +14,8 @@ pub record IsPrefixFree {T : Type 0} (IsItem : T → Type 0) (spelling : T → L
   pub one : (x y : T) (r s : List ℕ) → IsItem x → IsItem y → spelling x ++ r ≡ spelling y ++ s → (x ≡ y) × (r ≡ s)
 
 module _ {T : Type 0} {IsItem : T → Type 0} {spelling : T → List ℕ} (free : IsPrefixFree IsItem spelling) where
-  apart : (x y : T) (xs ys : List T) (r s : List ℕ) → IsItem x → IsItem y → flat_map spelling (x ∷ xs) ++ r ≡ flat_map spelling (y ∷ ys) ++ s
+  apart : (x y : T) (xs ys : List T) (r s : List ℕ) → IsItem x → IsItem y
+      → flat_map spelling (x ∷ xs) ++ r ≡ flat_map spelling (y ∷ ys) ++ s
       → (x ≡ y) × (flat_map spelling xs ++ r ≡ flat_map spelling ys ++ s)
   apart x y xs ys r s is_x is_y e =
       free.one x y (flat_map spelling xs ++ r) (flat_map spelling ys ++ s) is_x is_y
@@ -44,5 +45,6 @@ module _ {T : Type 0} {IsItem : T → Type 0} {spelling : T → List ℕ} (free 
   pub same_counted : (limit : ℕ) (xs ys : List T) (r s : List ℕ) → limit < 2 ^ 32 → IsList IsItem limit xs → IsList IsItem limit ys
       → counted_bytes spelling xs ++ r ≡ counted_bytes spelling ys ++ s → (xs ≡ ys) × (r ≡ s)
   same_counted limit xs ys r s fits is_xs is_ys e =
-      let count = same_u32 (length xs) (length ys) (flat_map spelling xs ++ r) (flat_map spelling ys ++ s) (omega (arith, is_xs.1)) (omega (arith, is_ys.1)) e in
+      let count = same_u32 (length xs) (length ys) (flat_map spelling xs ++ r) (flat_map spelling ys ++ s)
+      (omega (arith, is_xs.1)) (omega (arith, is_ys.1)) e in
       same_items xs ys r s is_xs.0 is_ys.0 count.0 count.1

@@ -24,7 +24,8 @@ class_by : ℕ → ℕ
 class_by first = if nat_lt first 65536 then 0 else first
 
 -- two spellings of one list of bytes have one number and one body
-pub same_form : (bytes : List ℕ) (m n : ℕ) (x y : List ℕ) → m < 2 ^ 32 → n < 2 ^ 32 → IsForm bytes m x → IsForm bytes n y → (m ≡ n) × (x ≡ y)
+pub same_form : (bytes : List ℕ) (m n : ℕ) (x y : List ℕ) → m < 2 ^ 32 → n < 2 ^ 32 → IsForm bytes m x → IsForm bytes n y
+    → (m ≡ n) × (x ≡ y)
 same_form bytes m n x y m_fits n_fits is_m is_n = same_u32 m n x y m_fits n_fits (sym is_m ∙ is_n)
 
 -- the number that the bytes begin with
@@ -42,7 +43,8 @@ module _ {U : Type 0} (reads : List ℕ → U → Type 0) where
   -- the class of what the bytes stand for is told by the number in front
   class_is : (bytes : List ℕ) (x : Stored U) → ReadsStored reads bytes x → stored_class x ≡ class_by (from_be_bytes w32 (take 4 bytes))
   unfolding class_by
-  class_is bytes (stored.Member m) is = sym (ap class_by (number_in_front bytes m.mask is.1 (omega (arith, is.0)) is.2) ∙ class_of-mask m.mask is.0)
+  class_is bytes (stored.Member m) is = sym (ap class_by (number_in_front bytes m.mask is.1 (omega (arith, is.0)) is.2)
+      ∙ class_of-mask m.mask is.0)
   class_is bytes (stored.Catalog c) is = sym (ap class_by (number_in_front bytes 65536 (catalog_bytes c) (omega arith) is.1))
   class_is bytes (stored.Head h) is = sym (ap class_by (number_in_front bytes 65537 (head_bytes h) (omega arith) is.1))
   class_is bytes (stored.Sorted s) is = sym (ap class_by (number_in_front bytes 65538 (entries_bytes s.entries) (omega arith) is.1))
@@ -54,29 +56,36 @@ module _ {U : Type 0} (reads : List ℕ → U → Type 0) where
   member_of value mask = record { value = value; mask = mask }
 
   module _ (one_object : (bytes : List ℕ) (v w : U) → reads bytes v → reads bytes w → v ≡ w) where
-    one_member : (bytes : List ℕ) (a b : AMember U) → ReadsStored reads bytes (stored.Member a) → ReadsStored reads bytes (stored.Member b) → a ≡ b
+    one_member : (bytes : List ℕ) (a b : AMember U) → ReadsStored reads bytes (stored.Member a)
+        → ReadsStored reads bytes (stored.Member b) → a ≡ b
     one_member bytes a b is_a is_b =
         let forms = same_form bytes a.mask b.mask is_a.1 is_b.1 (omega (arith, is_a.0)) (omega (arith, is_b.0)) is_a.2 is_b.2 in
         let value = one_object is_a.1 a.value b.value is_a.3 (subst (λ (l : List ℕ). reads l b.value) (sym forms.1) is_b.3) in
         let same : member_of a.value a.mask ≡ member_of b.value b.mask = cc (value, forms.0) in
         same
 
-    one_of_class : (bytes : List ℕ) (x y : Stored U) → stored_class x ≡ stored_class y → ReadsStored reads bytes x → ReadsStored reads bytes y → x ≡ y
+    one_of_class : (bytes : List ℕ) (x y : Stored U) → stored_class x ≡ stored_class y → ReadsStored reads bytes x
+        → ReadsStored reads bytes y → x ≡ y
     one_of_class bytes (stored.Member a) (stored.Member b) same is_x is_y = ap stored.Member (one_member bytes a b is_x is_y)
     one_of_class bytes (stored.Catalog a) (stored.Catalog b) same is_x is_y =
-        ap stored.Catalog (one_catalog a b is_x.0 is_y.0 (same_form bytes 65536 65536 (catalog_bytes a) (catalog_bytes b) (omega arith) (omega arith) is_x.1 is_y.1).1)
+        ap stored.Catalog (one_catalog a b is_x.0 is_y.0
+        (same_form bytes 65536 65536 (catalog_bytes a) (catalog_bytes b) (omega arith) (omega arith) is_x.1 is_y.1).1)
     one_of_class bytes (stored.Head a) (stored.Head b) same is_x is_y =
-        ap stored.Head (one_head a b is_x.0 is_y.0 (same_form bytes 65537 65537 (head_bytes a) (head_bytes b) (omega arith) (omega arith) is_x.1 is_y.1).1)
+        ap stored.Head (one_head a b is_x.0 is_y.0
+        (same_form bytes 65537 65537 (head_bytes a) (head_bytes b) (omega arith) (omega arith) is_x.1 is_y.1).1)
     one_of_class bytes (stored.Sorted a) (stored.Sorted b) same is_x is_y =
         let entries = one_entries 512 a.entries b.entries (omega arith) is_x.0 is_y.0
         (same_form bytes 65538 65538 (entries_bytes a.entries) (entries_bytes b.entries) (omega arith) (omega arith) is_x.1 is_y.1).1 in
         ap (λ (l : List Pair). stored.Sorted (sorted_of l)) entries
     one_of_class bytes (stored.Node a) (stored.Node b) same is_x is_y =
-        ap stored.Node (one_node a b is_x.0 is_y.0 (same_form bytes 65539 65539 (node_bytes a) (node_bytes b) (omega arith) (omega arith) is_x.1 is_y.1).1)
+        ap stored.Node (one_node a b is_x.0 is_y.0
+        (same_form bytes 65539 65539 (node_bytes a) (node_bytes b) (omega arith) (omega arith) is_x.1 is_y.1).1)
     one_of_class bytes (stored.Directory a) (stored.Directory b) same is_x is_y =
-        ap stored.Directory (one_directory a b is_x.0 is_y.0 (same_form bytes 65540 65540 (directory_bytes a) (directory_bytes b) (omega arith) (omega arith) is_x.1 is_y.1).1)
+        ap stored.Directory (one_directory a b is_x.0 is_y.0
+        (same_form bytes 65540 65540 (directory_bytes a) (directory_bytes b) (omega arith) (omega arith) is_x.1 is_y.1).1)
     one_of_class bytes (stored.Bucket a) (stored.Bucket b) same is_x is_y =
-        ap stored.Bucket (one_bucket a b is_x.0 is_y.0 (same_form bytes 65541 65541 (bucket_bytes a) (bucket_bytes b) (omega arith) (omega arith) is_x.1 is_y.1).1)
+        ap stored.Bucket (one_bucket a b is_x.0 is_y.0
+        (same_form bytes 65541 65541 (bucket_bytes a) (bucket_bytes b) (omega arith) (omega arith) is_x.1 is_y.1).1)
     one_of_class bytes x y same is_x is_y = absurd (omega (arith, same))
 
     -- bytes stand for one object
