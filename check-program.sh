@@ -1,6 +1,6 @@
 #!/usr/bin/env bash
-# Starts the program on real files in every way that could hurt a database, and checks each answer, each exit status and
-# that the database is whole afterwards. Of files no contract speaks, so this stands behind the proofs.
+# Starts the program on real files in the ways that we know could hurt a database, and checks each answer, each exit status
+# and that the database is whole afterwards. Of files no contract speaks, so this stands behind the proofs.
 #
 #   ./check-program.sh [PROGRAM]
 #
@@ -157,6 +157,12 @@ whole "closed input"
 tdb_closed <&- >&-
 expect "closed input and output: the status" 7 "$status"
 whole "closed input and output"
+tdb_closed <&- 2>&- >replies
+answers "closed input and errors" 9 end
+whole "closed input and errors"
+tdb_closed <script >&- 2>&-
+expect "closed output and errors: the status" 7 "$status"
+whole "closed output and errors"
 tdb_closed <&- >&- 2>&-
 expect "all closed: the status" 7 "$status"
 whole "all closed"
@@ -171,7 +177,7 @@ status=0
 expect "no words and closed output: the status" 7 "$status"
 
 # The same where the store is made: it is whole, and a later run finds no object in it.
-for closed in '>&-' '<&- >&-' '<&- >&- 2>&-'; do
+for closed in '>&-' '>&- 2>&-' '<&- >&-' '<&- >&- 2>&-'; do
     new_folder
     status=0
     eval "\"\$program\" device anchor secret start plain 16 <script $closed" || status=$?
@@ -181,6 +187,58 @@ for closed in '>&-' '<&- >&-' '<&- >&- 2>&-'; do
 refused no object 1 1
 bye"
 done
+
+# A client that goes away closes its pipe. The first reply that can't be put ends the run, and no signal does.
+# tdb_unread WORDS..: runs the program, with nobody at the other end of its output's pipe
+tdb_unread() {
+    local unread
+    exec {unread}> >(exit 0)
+    wait "$!"
+    status=0
+    "$program" device anchor secret "$@" >&"$unread" || status=$?
+    exec {unread}>&-
+}
+new_store
+tdb_unread run <script
+expect "a client that is gone: the status" 7 "$status"
+whole "a client that is gone"
+nothing_left "a client that is gone" anchor device
+tdb_unread start plain 16 <script
+expect "a second start by a client that is gone: the status" 7 "$status"
+whole "a second start by a client that is gone"
+new_folder
+tdb_unread run <script
+expect "mistyped names by a client that is gone: the status" 7 "$status"
+expect "mistyped names by a client that is gone: the folder" "$(printf '%s\n' get script secret)" "$(ls)"
+tdb_unread start plain 16 <script
+expect "a start by a client that is gone: the status" 7 "$status"
+tdb run <get
+answers "a start by a client that is gone: the next run" 0 "begun 1
+refused no object 1 1
+bye"
+
+# One that goes away before its commit is answered has made it.
+new_store
+coproc client { "$program" device anchor secret run; }
+client_input=${client[1]}
+client_output=${client[0]}
+client_process=$client_PID
+printf '%s\n' 'begin 1' 'new 1 note world' >&"$client_input"
+for wanted in 'begun 1' 'made 1 2'; do
+    read -r -t 20 reply <&"$client_output" || fail "no reply: $wanted"
+    expect "the reply to one that goes away" "$wanted" "$reply"
+done
+exec {client_output}<&-
+printf '%s\n' 'commit 1' 'quit' >&"$client_input"
+status=0
+wait "$client_process" || status=$?
+exec {client_input}>&-
+expect "a commit that nobody heard of: the status" 7 "$status"
+printf '%s\n' 'begin 1' 'get 1 2' 'quit' >get
+tdb run <get
+answers "a commit that nobody heard of: the next run" 0 "begun 1
+got 1 2 note world
+bye"
 
 # A client that waits for each reply is served line by line, and while it is, no other run gets the files.
 new_store
