@@ -1,15 +1,16 @@
 -- A copy stays as it is until it is dropped.
-use Rattle.std.proofs.Common.{◌≡◌, ◌⊎◌, inl, inr, ℕ, ◌==◌, Bool, true, false, cond, List, Option, Some, None, is_some, refl, sym, ◌∙◌, ap}
+use Rattle.std.proofs.Common.{◌≡◌, ◌⊎◌, inl, inr, ℕ, suc, ◌==◌, Bool, true, false, cond, List, [], ◌∷◌, ◌++◌, Option, Some, None, is_some, Contains, refl, sym, ◌∙◌, ap, arith}
 use Rattle.std.proofs.lemmas.Bool.{eqb-true, not-false, both_ways}
 use Rattle.std.specs.FinMap.{get, remove}
 use Rattle.tdb_base.specs.declared.names.PartId.{PartId}
-use Rattle.tdb_model.specs.Apply.{made, with_partition, apply}
-use Rattle.tdb_model.specs.Check.{has_parent, refusal}
+use Rattle.tdb_model.specs.Apply.{made, with_partition, apply, apply_all}
+use Rattle.tdb_model.specs.Check.{has_parent, refusal, first_refusal}
 use Rattle.tdb_model.specs.State.{State, Partition}
 use Rattle.tdb_model.specs.declared.change.Change.{Change}
 use Rattle.tdb_model.specs.declared.change.Change.TheVariants.{Write, Free, Make, Copy, Drop}
 use Rattle.tdb_model.proofs.MapLemmas.{get_inserted, get_removed}
-use Rattle.tdb_model.proofs.RangeLemmas.{write_in_range, free_in_range, make_in_range, copy_in_range}
+use Rattle.tdb_model.proofs.ParentLemmas.{first_refusal_at}
+use Rattle.tdb_model.proofs.RangeLemmas.{option_or_none, write_in_range, free_in_range, make_in_range, copy_in_range}
 
 -- the change drops this partition
 abbrev pub IsDropOf : ℕ → Change → Type 0
@@ -48,3 +49,22 @@ copy_stays count earlier state (Drop dropped) part p there copy passes =
       | true ↦ λ at. inr (dropped, sym (eqb-true part dropped.0 at), refl)
       | false ↦ λ is. inl (get_removed state dropped.0 part ∙ ap (λ (b : Bool). cond b None (get state part)) is ∙ there)
     ] refl
+
+-- one of these changes drops this partition
+abbrev pub IsDropped : ℕ → List Change → Type 0
+IsDropped part changes = (dropped : PartId) × (dropped.0 ≡ part) × Contains changes (Drop dropped)
+
+-- The same over the changes of one commit: a copy stays unless one of them drops it.
+pub copy_stays_all : (count : ℕ) (earlier : List Change) (state : State) (changes : List Change) (part : ℕ) (p : Partition) → get state part ≡ Some p → (p.parent ≡ 0 → ⊥)
+    → first_refusal earlier state changes ≡ None → (get (apply_all count state changes) part ≡ Some p) ⊎ IsDropped part changes
+copy_stays_all count earlier state [] part p there copy passes = inl there
+copy_stays_all count earlier state (change ∷ later) part p there copy passes =
+    let both = option_or_none (refusal earlier state change) _ (sym (first_refusal_at count earlier state change later) ∙ passes) in
+    elim (copy_stays count earlier state change part p there copy both.0) as (λ _. (get (apply_all count (apply count state change) later) part ≡ Some p) ⊎ IsDropped part (change ∷ later)) [
+      | inl stays ↦ elim (copy_stays_all count (earlier ++ change ∷ []) (apply count state change) later part p stays copy both.1)
+          as (λ _. (get (apply_all count (apply count state change) later) part ≡ Some p) ⊎ IsDropped part (change ∷ later)) [
+            | inl still ↦ inl still
+            | inr drop ↦ inr (drop.0, drop.1, (suc drop.2.0, omega (arith, drop.2.1), drop.2.2))
+          ]
+      | inr drop ↦ inr (drop.0, drop.1, (0, omega arith, drop.2))
+    ]

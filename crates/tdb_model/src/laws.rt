@@ -1,5 +1,5 @@
 //! Laws of states, of changes and of the check.
-ghost use Rattle.std.specs.Prelude.{◌≡◌, ◌⊎◌, ◌≤◌, ℕ, List, [], ◌∷◌, ◌++◌, Some, None};
+ghost use Rattle.std.specs.Prelude.{◌≡◌, ◌⊎◌, ◌≤◌, ℕ, List, [], ◌∷◌, ◌++◌, Some, None, Contains};
 ghost use Rattle.std.specs.FinMap.{empty, get, insert};
 ghost use Rattle.std.specs.Option.{option_or};
 ghost use Rattle.tdb_base.specs.declared.names.PartId.{PartId};
@@ -31,6 +31,14 @@ pub fn copies_are_frozen()
     ensures { (count : ℕ) (earlier : List Change) (state : State) (change : Change) (part : ℕ) (copy : Partition) →
         get state part ≡ Some copy → (copy.parent ≡ 0 → ⊥) → refusal earlier state change ≡ None →
         (get (apply count state change) part ≡ Some copy) ⊎ ((dropped : PartId) × (dropped.0 ≡ part) × (change ≡ Drop dropped)) }
+{}
+
+/// A copy stays as it is through each commit that passes the check and doesn't drop it, whatever becomes of its source.
+pub fn copies_stay_until_dropped()
+    ensures { (count : ℕ) (state : State) (changes : List Change) (part : ℕ) (copy : Partition) →
+        get state part ≡ Some copy → (copy.parent ≡ 0 → ⊥) → check state changes ≡ None →
+        (get (apply_all count state changes) part ≡ Some copy)
+        ⊎ ((dropped : PartId) × (dropped.0 ≡ part) × Contains changes (Drop dropped)) }
 {}
 
 /// To free a rank that has no chunk changes nothing.
