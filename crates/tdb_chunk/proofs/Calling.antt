@@ -34,19 +34,21 @@ use Rattle.tdb_mark.specs.CommitChain.{commit_chain}
 use Rattle.tdb_chunk.specs.Committing.{AddedFrom, IsCommitCall, IsLonger, is_refusal}
 use Rattle.tdb_chunk.specs.Known.{IsAtHead, Knows, store_of}
 use Rattle.tdb_chunk.specs.Preparing.{IsNext, IsPrepared, refused_by}
-use Rattle.tdb_chunk.specs.Stepping.{IsPutStep, HasKnownLog}
+use Rattle.tdb_overlay.specs.PutStep.{IsPutStep}
+use Rattle.tdb_chunk.specs.Stepping.{HasKnownLog}
 use Rattle.tdb_overlay.specs.Sound.{IsSound}
 use Rattle.tdb_base.specs.declared.piece.NoRoom as room
-use Rattle.tdb_chunk.specs.declared.batch.LayError.{LayError}
-use Rattle.tdb_chunk.specs.declared.batch.LayError.TheVariants as lay
-use Rattle.tdb_chunk.specs.Text.{anchor_of, next_head, text_in_slot, text_of}
+use Rattle.tdb_overlay.specs.declared.batch.LayError.{LayError}
+use Rattle.tdb_overlay.specs.declared.batch.LayError.TheVariants as lay
+use Rattle.tdb_overlay.specs.Text.{anchor_of, next_head, text_in_slot, text_of}
 use Rattle.tdb_chunk.specs.declared.open_log.OpenLog.{OpenLog}
 use Rattle.tdb_chunk.proofs.Committing.{allowed_on, next_known, next_step}
 use Rattle.tdb_chunk.proofs.Growing.{Counts, Steps, added_err, added_ok, none_added, put_added}
-use Rattle.tdb_chunk.proofs.Placing.{sealed_none}
+use Rattle.tdb_overlay.proofs.SealedPuts.{sealed_none}
 use Rattle.tdb_overlay.proofs.PutLogs.{found_in_put, grows_all, longer_chain, follows_is, unread_by}
 use Rattle.tdb_chunk.proofs.Logs.{put_adds}
-use Rattle.tdb_chunk.proofs.Stepping.{commit_goes_on, none_step, step_err, step_ok}
+use Rattle.tdb_chunk.proofs.Stepping.{commit_goes_on}
+use Rattle.tdb_overlay.proofs.StepResults.{none_step, step_err, step_ok}
 use Rattle.tdb_overlay.specs.Ran.{RanStep}
 use Rattle.std.proofs.lemmas.List.{append-nil}
 
@@ -171,7 +173,7 @@ module _ {D : Type 0} (outside : D → Outside) (crash_states : D → CrashState
   }
 
   module _ (now_is : OpenLog) (x : Unit {0}) (head : Head) (put : PutCommit outside crash_states secret was.log.head c ps old new (Ok head)) (keys : now_is.keys ≡ was.keys) (suite : now_is.log.suite ≡ was.log.suite) (head_is : now_is.log.head ≡ head) (segments : now_is.log.segments ≡ space)
-      (overlay : now_is.log.overlay ≡ noted_all c.count was.log.overlay entries) where
+      (overlay : now_is.log.overlay ≡ noted_all c.count was.log.overlay entries) (tree : now_is.log.tree ≡ was.log.tree) where
     head_next : now_is.log.head ≡ next_head secret was.log.head c
     head_next = head_is ∙ put.head_is
 
@@ -208,7 +210,9 @@ module _ {D : Type 0} (outside : D → Outside) (crash_states : D → CrashState
               (put.puts.complete refl) at unforged is;
           knows =
               next_known (outside old) was keep entries before behind changes prepared list not_full counts_on from known c ps space next values (outside new) is.chain before_h
-              (subst (Extends (outside old).trace) (sym wrote) (grows_all (outside old).trace put.puts.done)) finer is.ends is.tells (chain_of all at unforged is.chain (at_head tells) is.ends) now_is same_as (ap (λ (h : Head). h.count) head_next) (ap (λ (h : Head). h.base) head_next) segments overlay;
+              (subst (Extends (outside old).trace) (sym wrote) (grows_all (outside old).trace put.puts.done)) finer is.ends is.tells
+              (chain_of all at unforged is.chain (at_head tells) is.ends) now_is same_as (ap (λ (h : Head). h.count) head_next)
+              (ap (λ (h : Head). h.base) head_next) segments overlay tree;
         }
 
     pub done_call : IsCommitCall {T = Unit {0}} outside crash_states changes was now_is old new (Ok x)

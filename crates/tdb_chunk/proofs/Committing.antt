@@ -30,20 +30,23 @@ use Rattle.tdb_overlay.specs.Needed.{needed}
 use Rattle.tdb_overlay.specs.Required.{base_of}
 use Rattle.tdb_overlay.proofs.Chains.{chain_in_format, log_count, log_counts}
 use Rattle.tdb_overlay.proofs.Needing.{base_of-last, changes_needed, needed_longer, records_needed}
-use Rattle.tdb_chunk.specs.Names.{list_name}
+use Rattle.tdb_overlay.specs.Names.{list_name}
 use Rattle.tdb_overlay.specs.Changes.{AreChangesOf, HasChanges, named_records}
+use Rattle.tdb_overlay.specs.BaseTree.{HasToldRoots, TellsRoster}
 use Rattle.tdb_overlay.specs.Covering.{Covers, IsCovering, noted_all}
 use Rattle.tdb_overlay.specs.Found.{Finer, Finds, Store, in_trace}
 use Rattle.tdb_overlay.specs.Log.{AreOwned, IsCommitOn, IsStep, IsLogOf}
 use Rattle.tdb_overlay.specs.StoreState.{StoreState, commit_fits, commit_lengths, commit_on, committed, kept_free, record_length, records_of, where_passed, where_placed, first_state}
+use Rattle.tdb_overlay.specs.declared.recovered.BaseTree.{BaseTree}
+use Rattle.tdb_overlay.proofs.BaseTrees.{noted_all_told, roster_told_finer, told_roots_finer}
 use Rattle.tdb_overlay.proofs.Coverings.{covering_finer, covering_noted}
 use Rattle.tdb_overlay.proofs.Lengths.{as_many, records_are}
 use Rattle.tdb_chunk.specs.Known.{Knows, store_of}
-use Rattle.tdb_chunk.specs.LaidOut.{IsOneOf, LaidOut, in_pieces}
+use Rattle.tdb_overlay.specs.LaidOut.{IsOneOf, LaidOut, in_pieces}
 use Rattle.tdb_chunk.specs.Preparing.{IsNext, IsPrepared}
-use Rattle.tdb_chunk.specs.Text.{next_commit}
+use Rattle.tdb_overlay.specs.Text.{next_commit}
 use Rattle.tdb_chunk.specs.declared.open_log.OpenLog.{OpenLog}
-use Rattle.tdb_chunk.proofs.Sealing.{record_fits}
+use Rattle.tdb_overlay.proofs.Sealing.{record_fits}
 use Rattle.tdb_overlay.proofs.LogLaws.{changes_stay, list_stays}
 use Rattle.tdb_overlay.proofs.PutLogs.{in_later_trace}
 
@@ -149,7 +152,7 @@ module _ (o : Outside) (was : OpenLog) (keep : ℕ) (entries : List Entry) (befo
     new = record { place = next.first.place.0; bytes = next.sealed }
 
     abbrev d : Commit
-    d = next_commit was.log.suite was.log.head 1 was.log.head.base was.log.segments.segments next.first
+    d = next_commit was.log.suite was.log.head 1 was.log.head.base was.log.segments.segments next.first None
 
     each : AreChangesOf (in_pieces (before ++ new ∷ [])) was.keys entries changes
     each = changes_stay (in_pieces before) (in_pieces (before ++ new ∷ [])) (more_found before new) was.keys entries changes prepared.each
@@ -224,8 +227,9 @@ module _ (o : Outside) (was : OpenLog) (keep : ℕ) (entries : List Entry) (befo
 
       -- what is noted of its list tells the state behind it
       pub next_known : (now_is : OpenLog) → store_of now_is ≡ store_of was → now_is.log.head.count ≡ c.count → now_is.log.head.base ≡ was.log.head.base
-          → now_is.log.segments ≡ space → now_is.log.overlay ≡ noted_all c.count was.log.overlay entries → Knows u now_is (committed last changes space)
-      next_known now_is same count base segments overlay =
+          → now_is.log.segments ≡ space → now_is.log.overlay ≡ noted_all c.count was.log.overlay entries → now_is.log.tree ≡ was.log.tree
+          → Knows u now_is (committed last changes space)
+      next_known now_is same count base segments overlay tree =
           let f : Store → Finds = λ store. needed u.trace.written store u.anchor in
           let n : c.count ≡ last.count + 1 = omega (arith, ap (λ (k : Commit). k.count) next.commit, known.count) in
           let chunks : State = apply_all (last.count + 1) last.chunks changes in
@@ -240,19 +244,29 @@ module _ (o : Outside) (was : OpenLog) (keep : ℕ) (entries : List Entry) (befo
             chunks =
                 subst (λ (store : Store). IsCovering (f store) store.secret now_is.log.overlay chunks) (sym same)
                 (subst (λ (covers : Covers). IsCovering (f (store_of was)) was.keys covers chunks) (sym (overlay ∙ ap (λ (k : ℕ). noted_all k was.log.overlay entries) n)) covered);
+            root = ap (λ (t : BaseTree). t.root) tree ∙ known.root;
+            leaders = subst (λ (store : Store). TellsRoster (f store) store last.root now_is.log.tree.leaders) (sym same)
+                (subst (λ (t : BaseTree). TellsRoster (f (store_of was)) (store_of was) last.root t.leaders) (sym tree)
+                (roster_told_finer (needed o.trace.written (store_of was) o.anchor) (f (store_of was)) needed_still (store_of was) last.root
+                was.log.tree.leaders known.leaders));
+            roots = subst (λ (store : Store). HasToldRoots (f store) store last.root now_is.log.overlay) (sym same)
+                (subst (HasToldRoots (f (store_of was)) (store_of was) last.root) (sym overlay)
+                (noted_all_told (f (store_of was)) (store_of was) last.root c.count was.log.overlay entries
+                (told_roots_finer (needed o.trace.written (store_of was) o.anchor) (f (store_of was)) needed_still (store_of was) last.root
+                was.log.overlay known.roots)));
           }
 
 -- a list that is placed behind the records of a batch
 pub next_is : (was : OpenLog) (keep : ℕ) (entries : List Entry) (before : List Placed) (behind : SegmentSpace) (sealed : List ℕ) (first : Piece) (ps : List Placed) (space : SegmentSpace) (segments : ℕ) → segments ≡ was.log.segments.segments
     → length sealed ≡ record_length was.log.suite (16 + 72 * length entries) → first.length ≡ length sealed → first.digest.0 ≡ sha256 sealed → IsSealedRecord (system_key was.keys) (list_name was.log.suite) (list_bytes entries) sealed → place_in behind (length sealed) keep ≡ Ok (first.place, space)
     → ps ≡ before ++ record { place = first.place.0; bytes = sealed } ∷ [] → LaidOut was.keys was.log.segments behind before → was.log.head.count < 18446744073709551615 → IsList entries → LaidOut was.keys was.log.segments space ps
-    → IsNext was keep entries before behind (next_commit was.log.suite was.log.head 1 was.log.head.base segments first) ps space
+    → IsNext was keep entries before behind (next_commit was.log.suite was.log.head 1 was.log.head.base segments first None) ps space
 next_is was keep entries before behind sealed first ps space segments same long size digest opened place pieces_are laid counts_on list laid_now =
     let fits = record_fits was.log.suite (16 + 72 * length entries) (omega (arith, list.most)) in
     let one = place_in-is behind laid.valid (length sealed) keep first.place space (omega (arith, long, fits.0)) (omega (arith, long, fits.1)) place in
     record {
       first = first;
-      commit = ap (λ (n : ℕ). next_commit was.log.suite was.log.head 1 was.log.head.base n first) same;
+      commit = ap (λ (n : ℕ). next_commit was.log.suite was.log.head 1 was.log.head.base n first None) same;
       in_format = record {
         base = was.counts.some;
         kind = inl (refl, omega (arith, was.counts.base), refl);

@@ -29,7 +29,7 @@ use Rattle.tdb_overlay.specs.Log.{AreOwned, IsOwned}
 use Rattle.tdb_overlay.specs.StoreState.{record_length, record_of_change, records_of}
 use Rattle.tdb_overlay.proofs.Lengths.{records_are}
 use Rattle.tdb_overlay.proofs.LogLaws.{changes_stay}
-use Rattle.tdb_chunk.specs.LaidOut.{LaidOut, in_pieces}
+use Rattle.tdb_overlay.specs.LaidOut.{LaidOut, in_pieces}
 use Rattle.tdb_chunk.specs.Laying.{AreAllLaid, HasKey, IsLaid, IsOwner, Sealing, entry_with, entry_without, name_in, sealing_in}
 use Rattle.tdb_chunk.specs.declared.owner.Owner.{Owner}
 use Rattle.tdb_chunk.proofs.Committing.{last_found, more_found}

@@ -19,7 +19,7 @@ use Rattle.tdb_overlay.specs.WellFormedLog.{IsAccepted}
 use Rattle.tdb_overlay.proofs.KeptLaws.{record_is_no_text}
 use Rattle.tdb_overlay.proofs.Listed.{all_front, all_listed, all_more, all_weaker}
 use Rattle.tdb_chunk.specs.Formatting.{IsStart, WritesFirstText}
-use Rattle.tdb_chunk.specs.Text.{anchor_of, text_in_slot, text_of}
+use Rattle.tdb_overlay.specs.Text.{anchor_of, text_in_slot, text_of}
 
 -- whatever was written, was written before the last piece, or is that
 written_last : (ws : List WrittenPiece) (w : WrittenPiece) (bytes : List ℕ) → WasWritten (ws ++ w ∷ []) bytes

@@ -17,7 +17,7 @@ use Rattle.tdb_overlay.specs.Growth.{Commits, IsSettled, Nothing, OrNothing, Unl
 use Rattle.tdb_overlay.specs.Log.{IsLog, IsStep}
 use Rattle.tdb_overlay.specs.StoreState.{StoreState}
 use Rattle.tdb_chunk.specs.Committing.{AddedFrom, HasGrownFrom, Known}
-use Rattle.tdb_chunk.specs.LaidOut.{in_pieces}
+use Rattle.tdb_overlay.specs.LaidOut.{in_pieces}
 use Rattle.tdb_chunk.proofs.Logs.{put_adds, put_stays, put_grows}
 
 -- what one since a later moment leaves, one since an earlier moment leaves too

@@ -10,11 +10,9 @@ pub mod Logs
 pub mod LookedFor
 pub mod Lookups
 pub mod Owners
-pub mod Placing
 pub mod Prepared
 pub mod Rightly
 pub mod NewStores
-pub mod Sealing
 pub mod Shown
 pub mod Starting
 pub mod Stepping

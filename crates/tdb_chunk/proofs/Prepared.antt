@@ -28,7 +28,7 @@ use Rattle.tdb_overlay.specs.StoreState.{StoreState, commit_on, kept_free, recor
 use Rattle.tdb_overlay.proofs.Lengths.{as_many}
 use Rattle.tdb_chunk.specs.Committing.{is_refusal}
 use Rattle.tdb_chunk.specs.Known.{Knows, store_of}
-use Rattle.tdb_chunk.specs.LaidOut.{in_pieces}
+use Rattle.tdb_overlay.specs.LaidOut.{in_pieces}
 use Rattle.tdb_chunk.specs.Laying.{AreAllLaid}
 use Rattle.tdb_chunk.specs.Preparing.{IsPrepared}
 use Rattle.tdb_chunk.specs.declared.open_log.OpenLog.{OpenLog}

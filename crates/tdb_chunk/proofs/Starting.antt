@@ -18,7 +18,7 @@ use Rattle.tdb_mark.specs.CommitChain.{commit_chain}
 use Rattle.tdb_mark.specs.CommitText.{commit_key_of, commit_of}
 use Rattle.tdb_model.specs.Apply.{History}
 use Rattle.std.specs.FinMap.{get-empty}
-use Rattle.tdb_model.specs.State.{Partition, no_partitions}
+use Rattle.tdb_model.specs.State.{Partition, State, no_partitions}
 use Rattle.tdb_node.specs.declared.table.Table.{Table}
 use Rattle.tdb_node.specs.SegmentTable.{IsTable, IsTableValue, IsUsed, table_bytes}
 use Rattle.tdb_append.specs.Put.{Puts}
@@ -42,11 +42,11 @@ use Rattle.tdb_overlay.specs.Trees.{map_height, nodes_in, roster}
 use Rattle.tdb_map.proofs.TreeLemmas.{none_at}
 use Rattle.tdb_overlay.proofs.CheckpointLaws.{none_narrow, none_reached}
 use Rattle.tdb_overlay.proofs.PlacedLogs.{IsIn, table_placed}
-use Rattle.tdb_chunk.specs.LaidOut.{IsFreshIn, IsOneOf, LaidOut, in_pieces}
-use Rattle.tdb_chunk.specs.Names.{table_name}
-use Rattle.tdb_chunk.specs.Text.{anchor_of, next_commit, text_in_slot, text_of}
+use Rattle.tdb_overlay.specs.LaidOut.{IsFreshIn, IsOneOf, LaidOut, in_pieces}
+use Rattle.tdb_overlay.specs.Names.{table_name}
+use Rattle.tdb_overlay.specs.Text.{anchor_of, next_commit, text_in_slot, text_of}
 use Rattle.tdb_chunk.proofs.Growing.{Counts, Steps, put_added}
-use Rattle.tdb_chunk.proofs.Sealing.{record_fits}
+use Rattle.tdb_overlay.proofs.Sealing.{record_fits}
 
 first_is_free : (n : ℕ) → 16 ≤ n → at_free_segment (free_segments (fresh_space n)) 0 ≡ Some first_place
 unfolding missing_below
@@ -82,7 +82,7 @@ module _ (store : Store) (head : Head) (segments : ℕ) (first : Piece) (table :
   pieces = record { place = first.place.0; bytes = sealed } ∷ []
 
   abbrev commit : Commit
-  commit = next_commit store.suite head 2 1 segments first
+  commit = next_commit store.suite head 2 1 segments first None
 
   fits : (1 ≤ n) × (n ≤ 262144)
   fits = subst (λ (m : ℕ). (1 ≤ m) × (m ≤ 262144)) (sym n_is) (record_fits store.suite 528 (omega arith))
@@ -146,6 +146,10 @@ none_tells f store part = record {
   partition = subst (λ (p : Option Partition). IsPartitionOf f store part None p) (sym (get-empty {X = Partition} nat_cmp part)) tt;
 }
 
+-- the state at a checkpoint
+abbrev state_by : ℕ → Option Piece → SegmentSpace → State → StoreState
+state_by count root space chunks = record { count = count; base = count; root = root; space = space; chunks = chunks }
+
 -- the first text is a checkpoint on no text
 pub first_steps : (o : Outside) (store : Store) (head : Head) (segments : ℕ) (c : Commit) (ps : List Placed) (space : SegmentSpace) → IsStart store head segments c ps space → head.count ≡ 0 → o.anchor.0 ≡ 0
     → Steps (λ _. Unit {0}) store o ps c (Formatted store segments)
@@ -153,13 +157,16 @@ first_steps o store head segments c ps space s zero_count start before from is k
     let from_is : from ≡ first_state = starts_first o store before from start is in
     let one : c.count ≡ 1 = omega (arith, ap (λ (k : Commit). k.count) s.commit, zero_count) in
     let none : from.count ≡ 0 = ap (λ (x : StoreState). x.count) from_is in
-    let after : formatted_state store segments ≡ record { count = c.count; base = c.count; space = table_space s.table.table (end_of c.first); chunks = from.chunks } =
-    ap (λ (n : ℕ). let x : StoreState = record { count = n; base = n; space = with_bytes (fresh_space segments) first_place (record_length store.suite 528); chunks = no_partitions } in x) (sym one)
-    ∙ ap (λ (y : SegmentSpace). let x : StoreState = record { count = c.count; base = c.count; space = y; chunks = no_partitions } in x) (sym (s.after ∙ s.is_first))
-    ∙ ap (λ (y : StoreState). let x : StoreState = record { count = c.count; base = c.count; space = table_space s.table.table (end_of c.first); chunks = y.chunks } in x) (sym from_is) in
+    let rootless : c.root ≡ None = ap (λ (k : Commit). k.root) s.commit in
+    let start_space : SegmentSpace = with_bytes (fresh_space segments) first_place (record_length store.suite 528) in
+    let table : SegmentSpace = table_space s.table.table (end_of c.first) in
+    let after : formatted_state store segments ≡ state_by c.count c.root table from.chunks =
+    ap (λ (n : ℕ). state_by n None start_space no_partitions) (sym one)
+    ∙ ap (λ (y : SegmentSpace). state_by c.count None y no_partitions) (sym (s.after ∙ s.is_first))
+    ∙ ap (λ (r : Option Piece). state_by c.count r table no_partitions) (sym rootless)
+    ∙ ap (λ (y : StoreState). state_by c.count c.root table y.chunks) (sym from_is) in
     let placed : IsIn (formatted_state store segments).space c.first =
     subst (λ (x : StoreState). IsIn x.space c.first) (sym after) (table_placed (in_pieces ps) store.secret c s.in_format s.table).1 in
-    let rootless : c.root ≡ None = ap (λ (k : Commit). k.root) s.commit in
     let first_alone : (piece : Piece) → (piece ≡ c.first) ⊎ IsReached (in_pieces ps) store c.root piece → piece ≡ c.first =
     λ piece which. ⊎_elim (λ same. same)
     (λ reached. absurd (none_reached (in_pieces ps) store piece (subst (λ (root : Option Piece). IsReached (in_pieces ps) store root piece) rootless reached))) which in

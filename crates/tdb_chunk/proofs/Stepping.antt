@@ -1,13 +1,10 @@
 -- Commits, and the start of a log, are steps of a run.
-use Rattle.std.proofs.Common.{◌≡◌, ◌≢◌, inl, inr, ◌+◌, ◌<◌, ℕ, List, [], ◌∷◌, Result, Ok, Err, IsErr, IsTrue, replicate, refl, sym, ◌∙◌}
+use Rattle.std.proofs.Common.{◌≡◌, ◌≢◌, inr, ◌+◌, ◌<◌, ℕ, List, [], ◌∷◌, IsTrue, replicate, refl, sym, ◌∙◌}
 use Rattle.std.proofs.Common.{ap, subst, arith}
 use Rattle.std.specs.Prelude.{All}
 use Rattle.std.specs.List.{AllByRecursion}
-use Rattle.std.proofs.lemmas.Bool.{false≢true}
 use Rattle.tdb_append.specs.Placed.{Placed}
 use Rattle.tdb_append.specs.declared.head.Head.{Head}
-use Rattle.tdb_base.proofs.Tracing.{extends_itself}
-use Rattle.tdb_base.specs.Trace.{Trace}
 use Rattle.tdb_list.specs.declared.entry.Entry.{Entry}
 use Rattle.tdb_list.specs.ChangeList.{IsList}
 use Rattle.tdb_list.specs.Entry.{IsEntryValue}
@@ -15,19 +12,14 @@ use Rattle.tdb_mark.specs.declared.commit.Commit.{Commit}
 use Rattle.tdb_model.specs.declared.change.Change.{Change}
 use Rattle.tdb_model.specs.Apply.{History}
 use Rattle.tdb_platform.specs.Outside.{Anchor, Outside}
-use Rattle.tdb_platform.specs.CrashStates.{CrashStates, now}
 use Rattle.tdb_seg.specs.SegmentSpace.{SegmentSpace}
 use Rattle.tdb_overlay.specs.Found.{Store}
 use Rattle.tdb_overlay.specs.LaidPieces.{IsFreshIn, in_pieces}
 use Rattle.tdb_overlay.specs.Log.{IsLog, IsStep}
 use Rattle.tdb_overlay.specs.NextText.{GoesOnWith, NamesMark}
-use Rattle.tdb_overlay.specs.Ran.{FromLeft, RanOn, RanStep}
 use Rattle.tdb_overlay.specs.StoreState.{StoreState, committed, first_state}
 use Rattle.tdb_overlay.proofs.NextTexts.{next_by_pieces, start_goes_on}
 use Rattle.tdb_overlay.proofs.OneLog.{log_is_one}
-use Rattle.tdb_overlay.proofs.RanLaws.{still_anchored, still_intact, still_leads}
-use Rattle.tdb_overlay.proofs.SealedPuts.{only_sealed_none}
-use Rattle.tdb_overlay.proofs.TextsRan.{writes_none}
 use Rattle.tdb_chunk.specs.Formatting.{IsStart}
 use Rattle.tdb_chunk.specs.Known.{IsAtHead, Knows, store_of}
 use Rattle.tdb_chunk.specs.Preparing.{IsNext, IsPrepared}
@@ -35,68 +27,6 @@ use Rattle.tdb_chunk.specs.Stepping.{HasKnownLog}
 use Rattle.tdb_chunk.specs.declared.open_log.OpenLog.{OpenLog}
 use Rattle.tdb_chunk.proofs.Committing.{next_step}
 use Rattle.tdb_chunk.proofs.Starting.{first_steps}
-
-module _ {D : Type 0} (outside : D → Outside) (crash_states : D → CrashStates) (store : Store) (added : History) where
-  module _ (p : D) where
-    abbrev t : Trace
-    t = (outside p).trace
-
-    from_here : (i : List ℕ) (a : Anchor) → now outside crash_states p i a → FromLeft outside crash_states store p p [] added i a
-    from_here i a here = record {
-      image = i;
-      anchor = a;
-      left = here;
-      leads = still_leads store t t (extends_itself t) a added;
-      anchored = still_anchored store t t (extends_itself t) a;
-      counts = λ before last log. omega arith;
-      spares = λ honest is. still_intact store t t (extends_itself t) a i is;
-    }
-
-    none_ran : RanOn outside crash_states store p [] added p
-    none_ran = record {
-      tells = refl;
-      honest = refl;
-      grows = λ tells. extends_itself t;
-      faults = omega arith;
-      sealed = only_sealed_none store.secret (outside p);
-      formed = λ sound kept. kept.trace;
-      texts = λ sound. writes_none outside crash_states store p p added refl;
-      leads = λ sound. still_leads store t t (extends_itself t) (outside p).anchor added;
-      anchored = λ sound is. is;
-      counts = λ sound before last log. omega arith;
-      left = λ sound i a here. from_here i a here;
-      moments = record {
-        later = omega arith;
-        each = λ i a here sound. from_here i a here;
-        before = λ u i a within left. inl left;
-        keeps = λ u i a within left. left;
-      };
-    }
-
-    -- A call that did nothing, and failed.
-    pub none_step : {T E : Type 0} (e : E) → RanStep {T = T} outside crash_states store added p p (Err e)
-    none_step e = record { ok = tt; begun = none_ran }
-
-    pub none_by : {T E : Type 0} (r : Result T E) → IsErr r → RanStep outside crash_states store added p p r
-    none_by (Ok x) err = absurd (false≢true err)
-    none_by (Err e) err = none_step e
-
-  module _ (old new : D) where
-    -- The same step, after a result that is as good
-    pub step_ok : {T E V F : Type 0} (r : Result T E) (x : T) (y : V) → r ≡ Ok x → RanStep outside crash_states store added old new r
-        → RanStep {E = F} outside crash_states store added old new (Ok y)
-    step_ok r x y is step = record {
-      ok = (subst (λ (q : Result _ _). RanStep outside crash_states store added old new q) is step).ok;
-      begun = tt;
-    }
-
-    -- or as bad.
-    pub step_err : {T E V F : Type 0} (r : Result T E) (x : E) (y : F) → r ≡ Err x → RanStep outside crash_states store added old new r
-        → RanStep {T = V} outside crash_states store added old new (Err y)
-    step_err r x y is step = record {
-      ok = tt;
-      begun = (subst (λ (q : Result _ _). RanStep outside crash_states store added old new q) is step).begun;
-    }
 
 -- The text of a commit that is laid comes next in the log that is known, and no other log has its anchor.
 module _ (o : Outside) (was : OpenLog) (keep : ℕ) (entries : List Entry) (before : List Placed) (behind : SegmentSpace) (changes : List Change)

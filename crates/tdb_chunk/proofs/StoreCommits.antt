@@ -26,6 +26,7 @@ use Rattle.tdb_overlay.specs.Recovered.{IsRecovered}
 use Rattle.tdb_overlay.specs.Sound.{IsSound}
 use Rattle.tdb_overlay.specs.StoreState.{StoreState, commit_fits, commit_on, where_passed, where_placed}
 use Rattle.tdb_overlay.specs.declared.recovered.Recovered.{Recovered}
+use Rattle.tdb_overlay.proofs.BaseTrees.{roster_told_finer, told_roots_finer}
 use Rattle.tdb_overlay.proofs.Coverings.{covering_finer}
 use Rattle.tdb_overlay.proofs.LogLaws.{allows, found_still, log_state, log_stays}
 use Rattle.tdb_overlay.proofs.OneLog.{log_is_one}
@@ -91,6 +92,13 @@ module _ {P : Type 0} (outside : P → Outside) (old new : StoreView P) (same : 
       space = at.knows.space;
       chunks = covering_finer (needed (written_in outside old) (store_in old) (head_in old))
           (needed (written_in outside new) (store_in old) (head_in old)) still_needed old.secret old.log.overlay last.chunks at.knows.chunks;
+      root = at.knows.root;
+      leaders = roster_told_finer (needed (written_in outside old) (store_in old) (head_in old))
+          (needed (written_in outside new) (store_in old) (head_in old)) still_needed (store_in old) last.root old.log.tree.leaders
+          at.knows.leaders;
+      roots = told_roots_finer (needed (written_in outside old) (store_in old) (head_in old))
+          (needed (written_in outside new) (store_in old) (head_in old)) still_needed (store_in old) last.root old.log.overlay
+          at.knows.roots;
     },
   )
 

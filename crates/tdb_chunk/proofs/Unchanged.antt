@@ -15,9 +15,10 @@ same_log : (keys : List ℕ) (r s : Recovered) → r ≡ s → (c : HasCounts r)
 same_log keys r s same = subst (λ (t : Recovered). (c : HasCounts r) (d : HasCounts t) → open_log keys r c ≡ open_log keys t d) same
     (λ c d. ap (λ (x : HasCounts r). open_log keys r x) (counts_one r c d))
 
--- It has the same keys, suite, head and segments, and its overlay tells the same.
+-- It has the same keys, suite, head and segments and the same tree of the last checkpoint, and its overlay tells the same.
 pub same_but : (a b : OpenLog) → a.keys ≡ b.keys → a.log.suite ≡ b.log.suite → a.log.head ≡ b.log.head → a.log.segments ≡ b.log.segments
-    → a.log.overlay ≡ b.log.overlay → a ≡ b
-same_but a b keys suite head segments overlay =
-    let log : a.log ≡ b.log = λ i. record { suite = suite i; head = head i; segments = segments i; overlay = overlay i } in
+    → a.log.overlay ≡ b.log.overlay → a.log.tree ≡ b.log.tree → a ≡ b
+same_but a b keys suite head segments overlay tree =
+    let log : a.log ≡ b.log =
+    λ i. record { suite = suite i; head = head i; segments = segments i; overlay = overlay i; tree = tree i } in
     ap (λ (ks : List ℕ). open_log ks a.log a.counts) keys ∙ same_log b.keys a.log b.log log a.counts b.counts

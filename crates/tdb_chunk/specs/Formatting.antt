@@ -1,9 +1,8 @@
 -- What laying the start of a log does.
-use Rattle.std.specs.Prelude.{◌≡◌, ◌⊎◌, ℕ, List, [], IsTrue}
+use Rattle.std.specs.Prelude.{◌≡◌, ◌⊎◌, ℕ, List, [], None, IsTrue}
 use Rattle.tdb_append.specs.Placed.{Placed}
 use Rattle.tdb_append.specs.declared.head.Head.{Head}
 use Rattle.tdb_base.specs.declared.piece.Piece.{Piece}
-use Rattle.tdb_base.specs.declared.suite.Suite.{Suite}
 use Rattle.tdb_mark.specs.declared.commit.Commit.{Commit}
 use Rattle.tdb_mark.specs.CommitFormat.{IsInFormat}
 use Rattle.tdb_mark.specs.Unforged.{WasWritten}
@@ -16,12 +15,8 @@ use Rattle.tdb_overlay.specs.StoreState.{first_place, formatted_state, record_le
 use Rattle.tdb_seg.specs.TableSpace.{table_space}
 use Rattle.tdb_overlay.specs.Log.{end_of}
 use Rattle.tdb_overlay.specs.WellFormedLog.{IsAccepted}
-use Rattle.tdb_chunk.specs.LaidOut.{LaidOut, in_pieces}
-use Rattle.tdb_chunk.specs.Text.{next_commit}
-
--- the store of a secret in a suite
-abbrev pub store_under : List ℕ → Suite → Store
-store_under secret suite = record { secret = secret; suite = suite }
+use Rattle.tdb_overlay.specs.LaidOut.{LaidOut, in_pieces}
+use Rattle.tdb_overlay.specs.Text.{next_commit}
 
 -- From no text to the first checkpoint, of so many segments, which is no commit.
 abbrev pub Formatted : Store → ℕ → Commits
@@ -35,7 +30,7 @@ WritesFirstText secret old new = IsTrue old.tells → (text : List ℕ) (c : Com
 -- The start of a log that is laid: its text names the table, which has the space behind the table itself.
 pub record IsStart (store : Store) (head : Head) (segments : ℕ) (c : Commit) (pieces : List Placed) (space : SegmentSpace) : Type 0 where
   pub first : Piece
-  pub commit : c ≡ next_commit store.suite head 2 1 segments first
+  pub commit : c ≡ next_commit store.suite head 2 1 segments first None
   pub laid : LaidOut store.secret (fresh_space segments) space pieces
   pub table : HasTable (in_pieces pieces) store.secret c
   pub after : table_space table.table (end_of c.first) ≡ space

@@ -21,7 +21,7 @@ use Rattle.tdb_seg.specs.SegmentSpace.{SegmentSpace, fits}
 use Rattle.tdb_overlay.specs.Changes.{AreChangesOf, IsChangeOf, named_records}
 use Rattle.tdb_overlay.specs.Covering.{Covers}
 use Rattle.tdb_overlay.specs.Log.{AreOwned, IsOwned}
-use Rattle.tdb_chunk.specs.LaidOut.{LaidOut, in_pieces}
+use Rattle.tdb_overlay.specs.LaidOut.{LaidOut, in_pieces}
 use Rattle.tdb_chunk.specs.declared.owner.Owner.{Owner}
 
 -- the partitions that an overlay tells, after changes of a commit with a count

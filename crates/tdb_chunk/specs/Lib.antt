@@ -4,9 +4,7 @@ pub mod Committing
 pub mod Finding
 pub mod Formatting
 pub mod Known
-pub mod LaidOut
 pub mod Laying
-pub mod Names
 pub mod Preparing
 pub mod Reading
 pub mod Shown
@@ -15,4 +13,3 @@ pub mod Stepping
 pub mod StoreLaws
 pub mod StoreMeans
 pub mod StoreView
-pub mod Text

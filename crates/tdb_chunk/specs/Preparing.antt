@@ -19,11 +19,11 @@ use Rattle.tdb_overlay.specs.Keys.{system_key}
 use Rattle.tdb_overlay.specs.Log.{AreOwned}
 use Rattle.tdb_overlay.specs.StoreState.{StoreState, kept_free, record_length}
 use Rattle.tdb_chunk.specs.Known.{Knows}
-use Rattle.tdb_chunk.specs.LaidOut.{LaidOut, in_pieces}
-use Rattle.tdb_chunk.specs.Names.{list_name}
-use Rattle.tdb_chunk.specs.Text.{next_commit}
-use Rattle.tdb_chunk.specs.declared.batch.LayError.{LayError}
-use Rattle.tdb_chunk.specs.declared.batch.LayError.TheVariants.{Memory, NoRoom}
+use Rattle.tdb_overlay.specs.LaidOut.{LaidOut, in_pieces}
+use Rattle.tdb_overlay.specs.Names.{list_name}
+use Rattle.tdb_overlay.specs.Text.{next_commit}
+use Rattle.tdb_overlay.specs.declared.batch.LayError.{LayError}
+use Rattle.tdb_overlay.specs.declared.batch.LayError.TheVariants.{Memory, NoRoom}
 use Rattle.tdb_chunk.specs.declared.open_log.OpenLog.{OpenLog}
 
 -- the answer to a commit whose record got no place
@@ -49,7 +49,7 @@ pub record IsPrepared (outside : Outside) (store : OpenLog) (keep : ℕ) (entrie
 pub record IsNext (store : OpenLog) (keep : ℕ) (entries : List Entry) (before : List Placed) (behind : SegmentSpace) (c : Commit)
     (pieces : List Placed) (space : SegmentSpace) : Type 0 where
   pub first : Piece
-  pub commit : c ≡ next_commit store.log.suite store.log.head 1 store.log.head.base store.log.segments.segments first
+  pub commit : c ≡ next_commit store.log.suite store.log.head 1 store.log.head.base store.log.segments.segments first None
   pub in_format : IsInFormat c
   pub sealed : List ℕ
   pub long : length sealed ≡ record_length store.log.suite (16 + 72 * length entries)

@@ -1,31 +1,15 @@
--- What a put, and a call that commits, are in a run of calls.
-use Rattle.std.specs.Prelude.{◌+◌, ℕ, List, [], ◌∷◌, Result}
-use Rattle.tdb_append.specs.Placed.{Placed}
-use Rattle.tdb_base.specs.declared.suite.Suite.{Suite}
-use Rattle.tdb_mark.specs.declared.commit.Commit.{Commit}
+-- What a call that commits is in a run of calls.
+use Rattle.std.specs.Prelude.{◌+◌, List, [], ◌∷◌, Result}
 use Rattle.tdb_model.specs.declared.change.Change.{Change}
 use Rattle.tdb_model.specs.Apply.{History}
 use Rattle.tdb_platform.specs.Outside.{Outside}
 use Rattle.tdb_platform.specs.CrashStates.{CrashStates}
-use Rattle.tdb_overlay.specs.Growth.{IsSettled}
 use Rattle.tdb_overlay.specs.Log.{IsLog}
-use Rattle.tdb_overlay.specs.NextText.{GoesOnWith}
 use Rattle.tdb_overlay.specs.Ran.{RanStep}
 use Rattle.tdb_overlay.specs.Sound.{IsSound}
 use Rattle.tdb_overlay.specs.StoreState.{StoreState}
-use Rattle.tdb_chunk.specs.Formatting.{store_under}
 use Rattle.tdb_chunk.specs.Known.{Knows, store_of}
 use Rattle.tdb_chunk.specs.declared.open_log.OpenLog.{OpenLog}
-
--- Where the text comes next in whatever log the anchor has, the put of it is a step that adds what the text adds, for a store of any
--- suite.
-abbrev pub IsPutStep : {D T E : Type 0} → (D → Outside) → (D → CrashStates) → List ℕ → Commit → List Placed → D → D → Result T E
-    → Type 0
-IsPutStep outside crash_states secret c pieces old new result =
-    (suite : Suite) (added : History) → IsSettled outside crash_states old
-    → (IsSound secret (outside old)
-    → GoesOnWith (outside old).trace.written (store_under secret suite) (outside old).anchor c pieces added)
-    → RanStep outside crash_states (store_under secret suite) added old new result
 
 -- The anchor has a log of the store, whose last state the open log stands for.
 pub record HasKnownLog (o : Outside) (s : OpenLog) : Type 0 where

@@ -18,20 +18,18 @@ ghost use Rattle.tdb_overlay.specs.Growth.{IsSettled};
 ghost use Rattle.tdb_overlay.specs.StoreState.{StoreState, commit_on, record_length};
 ghost use Rattle.tdb_chunk.specs.Committing.{IsCommitCall, IsRightOf, is_early, is_refusal};
 ghost use Rattle.tdb_chunk.specs.Known.{IsAtHead, Knows, store_of};
-ghost use Rattle.tdb_chunk.specs.LaidOut.{LaidOut};
+ghost use Rattle.tdb_overlay.specs.LaidOut.{LaidOut};
 ghost use Rattle.tdb_chunk.specs.Preparing.{IsNext, IsPrepared, refused_by};
-ghost use Rattle.tdb_chunk.specs.declared.batch.LayError.TheVariants as lay;
+ghost use Rattle.tdb_overlay.specs.declared.batch.LayError.TheVariants as lay;
 
-use crate::batch::{Batch, LayError};
 use crate::laying::LaidChanges;
 use crate::open_log::OpenLog;
-use crate::records::seal_list;
-use crate::text::put_commit;
 use std::alloc::Global;
 use tdb_append::{HeadError, may_commit};
 use tdb_list::Entry;
 use tdb_mark::{COMMIT, Commit};
 use tdb_model::{CHANGE_LIMIT, Change, CommitError};
+use tdb_overlay::{Batch, LayError, put_commit, seal_list};
 use tdb_platform::Platform;
 
 /// How many segments stay free of a commit that needs room.

@@ -1,5 +1,5 @@
 //! The start of a log on a device.
-ghost use Rattle.std.specs.Prelude.{◌≡◌, ◌≤◌, ◌+◌, [], Err, IfErr, IfOk, IsTrue, OnOk, replicate};
+ghost use Rattle.std.specs.Prelude.{◌≡◌, ◌≤◌, ◌+◌, [], Err, IfErr, IfOk, IsTrue, None, OnOk, replicate};
 ghost use Rattle.tdb_append.specs.Placed.{placed};
 ghost use Rattle.tdb_base.specs.Rose.{Rose};
 ghost use Rattle.tdb_mark.specs.declared.commit.Commit.{Commit};
@@ -9,19 +9,17 @@ ghost use Rattle.tdb_overlay.specs.Growth.{Added, IsSettled};
 ghost use Rattle.tdb_overlay.specs.Ran.{RanStep};
 ghost use Rattle.tdb_overlay.specs.SealedOnly.{OnlySealed};
 ghost use Rattle.tdb_chunk.specs.declared.format.StoreError.TheVariants.{Fault, Memory};
-ghost use Rattle.tdb_chunk.specs.Formatting.{Formatted, IsStart, WritesFirstText, store_under};
-ghost use Rattle.tdb_chunk.specs.Text.{next_commit};
+ghost use Rattle.tdb_overlay.specs.Found.{store_under};
+ghost use Rattle.tdb_chunk.specs.Formatting.{Formatted, IsStart, WritesFirstText};
+ghost use Rattle.tdb_overlay.specs.Text.{next_commit};
 ghost use Rattle.tdb_chunk.specs.Known.{IsAtHead, Knows, store_of};
 
-use crate::batch::Batch;
 use crate::open_log::OpenLog;
-use crate::records::seal_table;
-use crate::text::put_commit;
 use std::alloc::Global;
 use tdb_append::Head;
 use tdb_base::{Digest, Piece, Suite};
 use tdb_mark::{CHECKPOINT, Commit};
-use tdb_overlay::{Keys, Overlay, Recovered};
+use tdb_overlay::{BaseTree, Batch, Keys, Overlay, Recovered, put_commit, seal_table};
 use tdb_platform::Platform;
 use tdb_seg::Segments;
 use thiserror::Error;
@@ -81,7 +79,7 @@ fn no_head() -> Head
 /// The first text: a checkpoint without partitions.
 fn first_commit(head: &Head, suite: Suite, segments: u32, first: Piece) -> Commit
     requires { head.now.count ≡ 0 }
-    ensures { result ≡ next_commit suite head.now 2 1 segments first }
+    ensures { result ≡ next_commit suite head.now 2 1 segments first None }
 {
     Commit {
         kind: CHECKPOINT,
@@ -171,6 +169,10 @@ impl OpenLog {
                 head,
                 segments: batch.segments,
                 overlay: Overlay::new(alloc),
+                tree: BaseTree {
+                    root: None,
+                    leaders: Overlay::new(alloc),
+                },
             },
         })
     }

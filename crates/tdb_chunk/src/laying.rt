@@ -13,12 +13,11 @@ ghost use Rattle.tdb_overlay.specs.Keys.{partition_key};
 ghost use Rattle.tdb_overlay.specs.SealedOnly.{IsRecord};
 ghost use Rattle.tdb_overlay.specs.StoreState as space;
 ghost use Rattle.tdb_chunk.specs.Known.{store_of};
-ghost use Rattle.tdb_chunk.specs.LaidOut.{LaidOut};
+ghost use Rattle.tdb_overlay.specs.LaidOut.{LaidOut};
 ghost use Rattle.tdb_chunk.specs.Laying.{AreAllLaid, HasKey, HasOwner, IsLaid, IsOwner, Sealing, PassesBehind};
 ghost use Rattle.tdb_chunk.specs.Laying.{entry_with, entry_without, name_in, owner_after, sealing_in, told_behind};
-ghost use Rattle.tdb_chunk.specs.declared.batch.LayError.TheVariants as lay;
+ghost use Rattle.tdb_overlay.specs.declared.batch.LayError.TheVariants as lay;
 
-use crate::batch::{Batch, LayError};
 use crate::commit::KEPT_FREE;
 use crate::open_log::OpenLog;
 use crate::owner::Owner;
@@ -26,7 +25,7 @@ use std::alloc::{AllocError, Global};
 use tdb_base::{Bytes, Digest, PartId, Piece, Place, Rank};
 use tdb_list::Entry;
 use tdb_model::Change;
-use tdb_overlay::{Keys, Overlay};
+use tdb_overlay::{Batch, Keys, LayError, Overlay};
 use tdb_seal::Name;
 
 /// How many segments stay free of a commit that only frees and drops.

@@ -6,7 +6,6 @@
 #![tactic(auto)]
 
 mod attach;
-mod batch;
 mod commit;
 mod format;
 mod laying;
@@ -14,11 +13,9 @@ mod open_log;
 mod opening;
 mod owner;
 mod reading;
-mod records;
 mod store;
 mod store_chunks;
 mod store_format;
-mod text;
 
 pub use format::StoreError;
 pub use open_log::OpenLog;

@@ -8,7 +8,8 @@ ghost use Rattle.tdb_overlay.specs.SealedOnly.{OnlySealed};
 ghost use Rattle.tdb_overlay.specs.Sound.{IsSound};
 ghost use Rattle.tdb_overlay.specs.StoreState.{formatted_state};
 ghost use Rattle.tdb_platform.specs.CrashStates.{LeavesOnly};
-ghost use Rattle.tdb_chunk.specs.Formatting.{WritesFirstText, store_under};
+ghost use Rattle.tdb_overlay.specs.Found.{store_under};
+ghost use Rattle.tdb_chunk.specs.Formatting.{WritesFirstText};
 ghost use Rattle.tdb_recover.specs.Settled.{RanSettled};
 ghost use Rattle.tdb_chunk.specs.declared.store_format.FormatError.TheVariants as errors;
 

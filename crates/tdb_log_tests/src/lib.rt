@@ -1,4 +1,4 @@
-//! Tests alone, of the log and of the store of chunks: slots and heads, overlays and fetches, the opening of logs
+//! Tests alone, of the log and of the store of chunks: slots and heads, overlays and fetches, batches of records, the opening of logs
 //! that an independent model of the formats wrote, the marks of a first path, and a store that
 //! owns its platform, through the trait of stores.
 //!
@@ -10,6 +10,8 @@
 mod ahead;
 #[cfg(test)]
 mod append;
+#[cfg(test)]
+mod batch;
 #[cfg(test)]
 mod chunk;
 #[cfg(test)]

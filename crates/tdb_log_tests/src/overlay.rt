@@ -18,7 +18,7 @@ const NOWHERE: Piece = Piece {
 };
 
 // SHA-256 of "abc", of no byte, of 44 zero bytes and of 256 zero bytes.
-const OF_ABC: Digest = Digest([
+pub(crate) const OF_ABC: Digest = Digest([
     0xba, 0x78, 0x16, 0xbf, 0x8f, 0x01, 0xcf, 0xea, 0x41, 0x41, 0x40, 0xde, 0x5d, 0xae, 0x22, 0x23,
     0xb0, 0x03, 0x61, 0xa3, 0x96, 0x17, 0x7a, 0x9c, 0xb4, 0x10, 0xff, 0x61, 0xf2, 0x00, 0x15, 0xad,
 ]);
@@ -28,7 +28,7 @@ const OF_NOTHING: Digest = Digest([
     0x27, 0xae, 0x41, 0xe4, 0x64, 0x9b, 0x93, 0x4c, 0xa4, 0x95, 0x99, 0x1b, 0x78, 0x52, 0xb8, 0x55,
 ]);
 
-const OF_44_ZEROS: Digest = Digest([
+pub(crate) const OF_44_ZEROS: Digest = Digest([
     0x85, 0x75, 0x9b, 0x38, 0x11, 0xff, 0x7d, 0xc4, 0x7b, 0x03, 0x79, 0x2a, 0xc8, 0x53, 0x17, 0xbe,
     0x51, 0x43, 0x1a, 0x3f, 0x9e, 0x01, 0xdc, 0xaf, 0xce, 0x31, 0x7e, 0xd7, 0x36, 0xa3, 0x91, 0xb0,
 ]);
@@ -216,6 +216,73 @@ fn an_overlay_tells_what_lists_say(rt: HostRuntime) -> Result<(), Fail> {
             "{part} {rank}"
         );
     }
+    Ok(())
+}
+
+// Tells of a partition what the leader of a checkpoint says.
+fn tell_one(
+    alloc: Global,
+    overlay: &mut Overlay,
+    part: u32,
+    leader: &tdb_node::Leader,
+) -> Result<bool, AllocError> {
+    if part < 1 || 4_095 < part || !leader.is_well_formed() {
+        return Ok(false);
+    }
+    overlay.tell(alloc, PartId(part), &Leader::kept(leader))?;
+    Ok(true)
+}
+
+#[test]
+fn an_overlay_tells_what_a_checkpoint_writes(rt: HostRuntime) -> Result<(), Fail> {
+    let alloc = rt.alloc();
+    let (root, piece, new_root) = (
+        piece_of(300_000, 3_120, OF_44_ZEROS),
+        piece_of(600_000, 51, OF_ABC),
+        piece_of(700_000, 3_120, OF_NOTHING),
+    );
+    let leader = tdb_node::Leader {
+        suite: Suite::Aes256,
+        home: 3,
+        birth: 4,
+        next: 300,
+        parent: 3,
+        born: 6,
+        root: Some(root),
+    };
+    let mut overlay = Overlay::new(alloc);
+    assert!(rt; tell_one(alloc, &mut overlay, 9, &leader)?);
+    for entry in [
+        entry_of(3, 7, 0),
+        write_of(9, 400, piece),
+        entry_of(2, 9, 6),
+    ] {
+        assert!(rt; note_one(alloc, &mut overlay, 8, entry)?);
+    }
+    let numbers = overlay.numbers(alloc)?;
+    assert!(rt; numbers.as_slice() == [PartId(7), PartId(9)].as_slice());
+    let changed = [
+        (7, 400, Some(None)),
+        (8, 400, None),
+        (9, 400, Some(Some(Some(piece)))),
+        (9, 6, Some(Some(None))),
+        (9, 5, Some(None)),
+    ];
+    for (part, rank, due) in changed {
+        let told = overlay
+            .edits(PartId(part))
+            .map(|edits| edits.get(&rank).copied());
+        assert_eq!(rt; told, due, "{part} {rank}");
+    }
+    let written = tdb_node::Leader {
+        next: 401,
+        root: Some(new_root),
+        ..leader
+    };
+    let told = overlay
+        .leader(PartId(9))
+        .map(|told| told.leader(Some(new_root)));
+    assert_eq!(rt; told, Some(written));
     Ok(())
 }
 

@@ -90,7 +90,7 @@ module _ {D : Type 0} (outside : D → Outside) (crash_states : D → CrashState
       next_begun i a f = record { image = f.image; anchor = f.anchor; left = f.left; leads = begun_part f.anchor a f.leads; anchored = f.anchored; counts = f.counts; spares = f.spares }
 
       old_stays : (i : List ℕ) (a : Anchor) → now outside crash_states old i a → FromLeft outside crash_states store old new [] added i a
-      old_stays i a left = from_itself outside crash_states counts numbered store old new (grows was_sound.tells) added i a left
+      old_stays i a left = from_itself outside crash_states store old new (grows was_sound.tells) added i a left
 
       either : (i : List ℕ) (a : Anchor) → (was : Anchor) × now outside crash_states old i was × ((a ≡ was) ⊎ (a ≡ next))
           → FromLeft outside crash_states store old new [] added i a

@@ -33,7 +33,7 @@ one_leader f one store part piece a b h k =
     same_leader a b k.plain (subst (λ (bytes : List ℕ). IsLeader a bytes) plain h.spelled) k.spelled
 
 module _ (f g : Finds) (finer : Finer f g) where
-  leader_stays : (store : Store) (part : ℕ) (piece : Piece) (l : Leader) → IsLeaderRecord f store part piece l
+  pub leader_stays : (store : Store) (part : ℕ) (piece : Piece) (l : Leader) → IsLeaderRecord f store part piece l
       → IsLeaderRecord g store part piece l
   leader_stays store part piece l is = record {
     sealed = is.sealed;

@@ -1,20 +1,17 @@
 -- A log is kept well formed as sealed records and then its next text are written.
-use Rattle.std.proofs.Common.{◌≡◌, ◌⊎◌, inl, inr, ⊎_elim, ℕ, ◌+◌, List, [], ◌∷◌, ◌++◌, take, get_or, codes, Some, replicate, refl, sym, ◌∙◌, ap, subst, append-nil, arith}
+use Rattle.std.proofs.Common.{◌≡◌, ◌⊎◌, inl, inr, ⊎_elim, ℕ, ◌+◌, List, [], ◌∷◌, ◌++◌, Some, replicate, refl, sym, ◌∙◌, ap, subst, append-nil, arith}
 use Rattle.std.specs.Prelude.{All}
 use Rattle.sha2.specs.Sha256.{sha256}
 use Rattle.tdb_append.specs.Placed.{Placed, with_all_written}
 use Rattle.tdb_append.specs.Put.{slot_place}
 use Rattle.tdb_base.specs.declared.suite.Suite.{Suite}
-use Rattle.tdb_base.specs.declared.suite.Suite.TheVariants.{Plain, Aes128, Aes256}
+use Rattle.tdb_base.specs.declared.suite.Suite.TheVariants.{Plain}
 use Rattle.tdb_base.specs.Trace.{Trace, WrittenPiece, Extends, calls_in, with_written}
 use Rattle.tdb_mark.specs.declared.commit.Commit.{Commit}
-use Rattle.tdb_mark.specs.CommitText.{commit_fields, commit_key_of, commit_of, commit_text}
+use Rattle.tdb_mark.specs.CommitText.{commit_key_of, commit_of}
 use Rattle.tdb_mark.specs.Unforged.{IsUnforged, WasWritten}
-use Rattle.tdb_mark.proofs.TextLemmas.{commit_of_is}
 use Rattle.tdb_model.specs.Apply.{History}
 use Rattle.tdb_platform.specs.Outside.{Anchor}
-use Rattle.tdb_seal.specs.declared.record.Name.{Name}
-use Rattle.tdb_seal.specs.SealedRecord.{ciphered_record, record_head, sealed_under}
 use Rattle.tdb_overlay.specs.Found.{Store, store_of_text}
 use Rattle.tdb_overlay.specs.LaidPieces.{IsOneOf}
 use Rattle.tdb_overlay.specs.Log.{IsLog}

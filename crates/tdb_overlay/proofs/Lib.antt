@@ -1,11 +1,14 @@
 pub mod AdvanceRan
 pub mod Apart
+pub mod BaseTrees
 pub mod Chains
 pub mod CheckpointLaws
 pub mod Coverings
 pub mod ImageLaws
+pub mod InRanges
 pub mod KeptCovers
 pub mod KeptLaws
+pub mod LaidOutLaws
 pub mod Lengths
 pub mod Listed
 pub mod Magics
@@ -25,6 +28,8 @@ pub mod ReadingLaws
 pub mod RequiredLaws
 pub mod RosterCovers
 pub mod SealedPuts
+pub mod Sealing
+pub mod StepResults
 pub mod Steps
 pub mod Telling
 pub mod TextsRan

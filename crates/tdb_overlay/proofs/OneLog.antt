@@ -139,6 +139,7 @@ module _ (f : Finds) (one : FindsOne f) (store : Store) (before : StoreState) (c
             (λ (t : Table). let s : StoreState = record {
               count = c.count;
               base = c.count;
+              root = c.root;
               space = table_space t
                   (end_of c.first);
               chunks = before.chunks;

@@ -84,6 +84,44 @@ module _ (store : Store) (ws vs : List WrittenPiece) (b a : Anchor) where
       let one = first before from log in
       (one.0, one.1, (one.2.0 ++ more, sym (append_assoc one.0 one.2.0 more) ∙ ap (λ (h : History). h ++ more) one.2.1 ∙ is), one.3)
 
+-- No call.
+module _ {D : Type 0} (outside : D → Outside) (crash_states : D → CrashStates) (store : Store) where
+  -- a pair that could be left then
+  pub from_itself : (old new : D) → Extends (outside old).trace (outside new).trace → (maybe : History) (i : List ℕ) (a : Anchor)
+      → now outside crash_states old i a → FromLeft outside crash_states store old new [] maybe i a
+  from_itself old new grows maybe i a here = record {
+    image = i;
+    anchor = a;
+    left = here;
+    leads = still_leads store (outside old).trace (outside new).trace grows a maybe;
+    anchored = still_anchored store (outside old).trace (outside new).trace grows a;
+    counts = λ before from log. omega arith;
+    spares = λ honest is. still_intact store (outside old).trace (outside new).trace grows a i is;
+  }
+
+  pub ran_none : (p : D) (maybe : History) → RanOn outside crash_states store p [] maybe p
+  ran_none p maybe =
+      let t : Trace = (outside p).trace in
+      record {
+        tells = refl;
+        honest = refl;
+        grows = λ _. extends_itself t;
+        faults = omega arith;
+        sealed = only_sealed_none store.secret (outside p);
+        formed = λ sound kept. kept.trace;
+        texts = λ sound. writes_none outside crash_states store p p maybe refl;
+        leads = λ sound. still_leads store t t (extends_itself t) (outside p).anchor maybe;
+        anchored = λ sound is. is;
+        counts = λ sound before from log. omega arith;
+        left = λ sound i a here. from_itself p p (extends_itself t) maybe i a here;
+        moments = record {
+          later = omega arith;
+          each = λ i a here sound. from_itself p p (extends_itself t) maybe i a here;
+          before = λ u i a within left. inl left;
+          keeps = λ u i a within left. left;
+        };
+      }
+
 module _ {D : Type 0} (outside : D → Outside) (crash_states : D → CrashStates)
     (counts : (p : D) (t u : ℕ) (i : List ℕ) (a : Anchor) → t ≤ u → u ≤ (outside p).clock → crash_states p u i a → crash_states p t i a)
     (numbered : (p : D) → IsTrue (outside p).tells → IsNumbered (outside p).trace) (store : Store) where
@@ -112,40 +150,8 @@ module _ {D : Type 0} (outside : D → Outside) (crash_states : D → CrashState
       → IsSound store.secret (outside old)
   sound_before old new xs maybe ran sound = sound_earlier old new ran.tells ran.grows sound
 
-  -- a pair that could be left then
-  pub from_itself : (old new : D) → Extends (outside old).trace (outside new).trace → (maybe : History) (i : List ℕ) (a : Anchor)
-      → now outside crash_states old i a → From old new [] maybe i a
-  from_itself old new grows maybe i a here = record {
-    image = i;
-    anchor = a;
-    left = here;
-    leads = still_leads store (outside old).trace (outside new).trace grows a maybe;
-    anchored = still_anchored store (outside old).trace (outside new).trace grows a;
-    counts = λ before from log. omega arith;
-    spares = λ honest is. still_intact store (outside old).trace (outside new).trace grows a i is;
-  }
-
-  -- No call.
   pub ran_itself : (c : D) → Ran c [] [] c
-  ran_itself c = record {
-    tells = refl;
-    honest = refl;
-    grows = λ _. extends_itself (outside c).trace;
-    faults = omega arith;
-    sealed = only_sealed_none store.secret (outside c);
-    formed = λ sound kept. kept.trace;
-    texts = λ sound. writes_none outside crash_states store c c [] refl;
-    leads = λ sound. still_leads store (outside c).trace (outside c).trace (extends_itself (outside c).trace) (outside c).anchor [];
-    anchored = λ sound is. is;
-    counts = λ sound before from log. omega arith;
-    left = λ sound i a here. from_itself c c (extends_itself (outside c).trace) [] i a here;
-    moments = record {
-      later = omega arith;
-      each = λ i a here sound. from_itself c c (extends_itself (outside c).trace) [] i a here;
-      before = λ t i a within left. inl left;
-      keeps = λ t i a within left. left;
-    };
-  }
+  ran_itself c = ran_none outside crash_states store c []
 
   -- Calls that only read.
   pub ran_reads : (old new : D) → OnlyReads outside crash_states old new → Ran old [] [] new
@@ -180,11 +186,11 @@ module _ {D : Type 0} (outside : D → Outside) (crash_states : D → CrashState
             let same = ap (λ (a : Anchor). a.0) (reads.anchor (sound_earlier old new reads.tells reads.grows sound).tells) in
             omega (arith, same);
         left = λ sound i a here.
-            from_itself old new (grew sound) [] i a
+            from_itself outside crash_states store old new (grew sound) [] i a
             (reads.left.each i a (counts new (outside old).clock (outside new).clock i a reads.left.later (omega arith) here));
         moments = record {
           later = reads.left.later;
-          each = λ i a since sound. from_itself old new (grew sound) [] i a (reads.left.each i a since);
+          each = λ i a since sound. from_itself outside crash_states store old new (grew sound) [] i a (reads.left.each i a since);
           before = reads.left.before;
           keeps = reads.left.keeps;
         };

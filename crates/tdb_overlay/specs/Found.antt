@@ -11,6 +11,10 @@ pub record Store : Type 0 where
   pub secret : List ℕ
   pub suite : Suite
 
+-- the store of a secret in a suite
+abbrev pub store_under : List ℕ → Suite → Store
+store_under secret suite = record { secret = secret; suite = suite }
+
 -- the store that a text under a secret says
 abbrev pub store_of_text : List ℕ → Commit → Store
 store_of_text secret c = record { secret = secret; suite = c.suite }

@@ -71,7 +71,7 @@ pub record IsCheckpointOn (finds : Finds) (store : Store) (before : StoreState) 
   pub tree : IsTreeState finds store c.root before.chunks
   pub narrow : IsNarrow finds store c.root
   pub after_is : after
-      ≡ record { count = c.count; base = c.count; space = table_space table.table (end_of c.first); chunks = before.chunks }
+      ≡ record { count = c.count; base = c.count; root = c.root; space = table_space table.table (end_of c.first); chunks = before.chunks }
   pub placed : (piece : Piece) → (piece ≡ c.first) ⊎ IsReached finds store c.root piece
       → IsPlacedIn after.space piece.place.0 piece.length
   pub apart : (p q : Piece) → (p ≡ c.first) ⊎ IsReached finds store c.root p → (q ≡ c.first) ⊎ IsReached finds store c.root q

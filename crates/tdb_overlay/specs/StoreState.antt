@@ -3,6 +3,7 @@ use Rattle.std.specs.Prelude.{ℕ, ◌+◌, ◌*◌, ◌/◌, ◌==◌, Bool, tr
 use Rattle.std.specs.Prelude.{None, Result, Ok, Err, if◌then◌else◌}
 use Rattle.std.specs.FinMap.{get}
 use Rattle.std.specs.List.{list_any}
+use Rattle.tdb_base.specs.declared.piece.Piece.{Piece}
 use Rattle.tdb_base.specs.declared.piece.Place.{Place}
 use Rattle.tdb_base.specs.declared.piece.NoRoom as refusals
 use Rattle.tdb_base.specs.declared.suite.Suite.{Suite}
@@ -17,17 +18,18 @@ use Rattle.tdb_model.specs.State.{State, Partition, no_partitions}
 use Rattle.tdb_seg.specs.SegmentSpace.{SegmentSpace, fits, fresh_space, segment_start, with_bytes}
 use Rattle.tdb_overlay.specs.Found.{Store}
 
--- What the texts of a log have come to: the count of the last, and that of the last checkpoint, the segments with their number, and
--- the state of the chunks.
+-- What the texts of a log have come to: the count of the last, that of the last checkpoint and the root of its roster, the segments
+-- with their number, and the state of the chunks.
 pub record StoreState : Type 0 where
   pub count : ℕ
   pub base : ℕ
+  pub root : Option Piece
   pub space : SegmentSpace
   pub chunks : State
 
 -- before the first text, where there is no segment yet
 abbrev pub first_state : StoreState
-first_state = record { count = 0; base = 0; space = fresh_space 0; chunks = no_partitions }
+first_state = record { count = 0; base = 0; root = None; space = fresh_space 0; chunks = no_partitions }
 
 -- how many bytes the record of n bytes has
 abbrev pub record_length : Suite → ℕ → ℕ
@@ -45,6 +47,7 @@ abbrev pub formatted_state : Store → ℕ → StoreState
 formatted_state store segments = record {
   count = 1;
   base = 1;
+  root = None;
   space = with_bytes (fresh_space segments) first_place (record_length store.suite 528);
   chunks = no_partitions;
 }
@@ -90,7 +93,13 @@ commit_fits store s changes = fits s.space (commit_lengths store (s.count + 1) s
 
 -- the state after a commit whose records were placed
 abbrev pub committed : StoreState → List Change → SegmentSpace → StoreState
-committed s changes space = record { count = s.count + 1; base = s.base; space = space; chunks = apply_all (s.count + 1) s.chunks changes }
+committed s changes space = record {
+  count = s.count + 1;
+  base = s.base;
+  root = s.root;
+  space = space;
+  chunks = apply_all (s.count + 1) s.chunks changes;
+}
 
 abbrev pub where_placed : StoreState → List Change → Result (List Place × SegmentSpace) refusals.NoRoom → Result StoreState CommitError
 where_placed s changes (Ok placed) = Ok (committed s changes placed.1)

@@ -6,16 +6,21 @@
 //! damage. What is changed there changes what each of those promises means.
 #![tactic(auto)]
 
+mod batch;
 mod fetching;
 mod kept;
 mod keys;
 mod laws;
+mod layer;
 mod overlay;
 mod pieces;
 mod record_keys;
+mod records;
 mod recovered;
 mod runs;
+mod text;
 
+pub use batch::{Batch, LayError};
 pub use fetching::{FetchError, fetch, fetch_text};
 pub use keys::Keys;
 pub use laws::{
@@ -24,5 +29,7 @@ pub use laws::{
 };
 pub use overlay::{Leader, Overlay, Reserved, Seen};
 pub use pieces::DevicePieces;
-pub use recovered::Recovered;
+pub use records::{seal_list, seal_table};
+pub use recovered::{BaseTree, Recovered};
 pub use runs::{put_is_a_step, runs_join, runs_keep};
+pub use text::put_commit;

@@ -1,15 +1,23 @@
 //! The partitions as change lists tell them.
-ghost use Rattle.std.specs.Prelude.{◌≡◌, ◌<◌, ◌≤◌, IfOk, IfSome, OnOk};
+ghost use Rattle.std.specs.Prelude.{◌≡◌, ◌<◌, ◌≤◌, IfOk, IfSome, OnErr, OnOk};
 ghost use Rattle.std.specs.FinMap as map;
-ghost use Rattle.std.specs.Option.{option_map};
+ghost use Rattle.std.specs.List.{AllByRecursion};
+ghost use Rattle.std.specs.Option.{option_copied, option_map};
+ghost use Rattle.tdb_base.specs.Segment.{LiesInOneSegment};
 ghost use Rattle.tdb_list.specs.ChangeList.{IsList};
-ghost use Rattle.tdb_list.specs.Entry.{IsEntry};
+ghost use Rattle.tdb_list.specs.Entry.{IsEntry, IsPartition};
+ghost use Rattle.tdb_map.specs.Updated.{EditsFit, EditsLie};
+ghost use Rattle.tdb_model.specs.Memory.{seen_as};
+ghost use Rattle.tdb_node.specs.Leader.{IsInLeaderFormat};
+ghost use Rattle.tdb_node.specs.Node.{IsEntry as IsRoot};
 ghost use Rattle.tdb_overlay.specs.Covering.{no_covers, suite_numbered, cover_written, cover_freed, cover_copied};
 ghost use Rattle.tdb_overlay.specs.Covering.{cover_made, with_cover, noted, noted_all};
+ghost use Rattle.tdb_overlay.specs.InRange.{IsInFormat, numbers_told, written_leader};
 ghost use Rattle.tdb_overlay.specs.Lookup.{NamesKey, cover_told, info_told, infos_told, leader_of, seen_in, seen_at};
 ghost use Rattle.tdb_overlay.specs.Memory.{covered_of};
 ghost use Rattle.tdb_overlay.specs.Reserving.{IsReserved};
 ghost use Rattle.tdb_overlay.specs.Roster.{kept_of};
+ghost use Rattle.tdb_overlay.specs.Trees.{map_height};
 
 use crate::kept::KeptPartition;
 use std::alloc::{AllocError, Global};
@@ -107,6 +115,7 @@ impl Model for Overlay {
 
 impl Model for Partitions {
     ghost use Rattle.tdb_overlay.specs.Covering.{Covers};
+    ghost use Rattle.tdb_overlay.specs.InRange.{AreInRange};
     ghost use Rattle.tdb_overlay.specs.Memory.{coded_covers, covers_in};
 
     ghost Value = { Covers };
@@ -114,12 +123,15 @@ impl Model for Partitions {
     ghost coded = { coded_covers };
 
     ghost view = { λ p. covers_in p.by_number };
+
+    ghost invariant = { λ p. AreInRange (covers_in p.by_number) };
 }
 
 impl Leader {
     /// What is kept of the leader that a checkpoint wrote.
     pub fn kept(leader: &tdb_node::Leader) -> Leader
-        ensures { result ≡ kept_of leader.now }
+        ensures fields { result ≡ kept_of leader.now }
+        ensures format { IsInLeaderFormat leader.now → IsInFormat result }
     {
         Leader {
             suite: leader.suite,
@@ -129,6 +141,22 @@ impl Leader {
             parent: leader.parent,
             born: leader.born,
             root: leader.root,
+        }
+    }
+
+    /// The leader that a checkpoint writes for the partition, with the root of its tree.
+    pub fn leader(&self, root: Option<Piece>) -> tdb_node::Leader
+        ensures fields { result ≡ written_leader self.now root }
+        ensures format { IsInFormat self.now → IsRoot root → IsInLeaderFormat result }
+    {
+        tdb_node::Leader {
+            suite: self.suite,
+            home: self.home,
+            birth: self.birth,
+            next: self.next,
+            parent: self.parent,
+            born: self.born,
+            root,
         }
     }
 
@@ -172,7 +200,8 @@ impl KeptPartition {
     /// The chunk at a rank is in the record of a piece.
     fn write(&mut self, rank: u32, piece: Piece) -> Result<(), AllocError>
         requires { rank < 262144 }
-        ensures { OnOk result (covered_of self.new ≡ cover_written rank piece (covered_of self.old)) }
+        ensures ok { OnOk result (covered_of self.new ≡ cover_written rank piece (covered_of self.old)) }
+        ensures err { OnErr result (covered_of self.new ≡ covered_of self.old) }
     {
         self.edits.insert(rank, Some(piece))?;
         self.leader.next = self.leader.next.max(rank + 1);
@@ -181,7 +210,8 @@ impl KeptPartition {
 
     /// There is no chunk at a rank.
     fn free(&mut self, rank: u32) -> Result<(), AllocError>
-        ensures { OnOk result (covered_of self.new ≡ cover_freed rank (covered_of self.old)) }
+        ensures ok { OnOk result (covered_of self.new ≡ cover_freed rank (covered_of self.old)) }
+        ensures err { OnErr result (covered_of self.new ≡ covered_of self.old) }
     {
         self.edits.insert(rank, None)?;
         Ok(())
@@ -238,7 +268,8 @@ impl Overlay {
 
     /// Tells of a partition what its leader says. No rank of it was changed.
     pub fn tell(&mut self, alloc: Global, part: PartId, leader: &Leader) -> Result<(), AllocError>
-        requires named { NamesKey leader.now }
+        requires number { IsPartition part.0 }
+        requires format { IsInFormat leader.now }
         ensures { OnOk result (self.new ≡ map.insert self.old part.0 (cover_told leader.now)) }
     {
         self.spare = None;
@@ -294,8 +325,28 @@ impl Overlay {
     pub fn leader(&self, part: PartId) -> Option<Leader>
         ensures found { result ≡ option_map leader_of (map.get self.now part.0) }
         ensures named { IfSome result NamesKey }
+        ensures format { IfSome result IsInFormat }
     {
         self.current.leader(part)
+    }
+
+    /// The ranks of a partition that were changed since the last checkpoint, or `None` where it isn't there: the piece
+    /// of the record of a chunk that was written, and `None` for one that was freed. It takes no memory.
+    pub fn edits(&self, part: PartId) -> Option<&BTreeMap<u32, Option<Piece>>>
+        ensures told { option_map (seen_as (λ piece. piece)) (option_copied result)
+            ≡ option_map (λ p. p.edits) (map.get self.now part.0) }
+        ensures ranks { IfSome result (λ edits. EditsFit map_height edits.now.entries) }
+        ensures pieces { IfSome result (λ edits. EditsLie edits.now.entries) }
+    {
+        self.current.edits(part)
+    }
+
+    /// The numbers of the partitions, ascending.
+    pub fn numbers(&self, alloc: Global) -> Result<Vec<PartId>, AllocError>
+        ensures told { IfOk result (λ numbers. numbers.items ≡ numbers_told self.now) }
+        ensures in_range { IfOk result (λ numbers. AllByRecursion (λ part. IsPartition part.0) numbers.items) }
+    {
+        self.current.numbers(alloc)
     }
 
     /// What is told of a partition to those who ask, or `None` where it isn't there. It takes no memory.
@@ -313,6 +364,16 @@ impl Overlay {
         ensures { IfOk result (λ infos. infos.items ≡ infos_told self.now) }
     {
         self.current.infos(alloc)
+    }
+
+    /// A copy, which costs as much as all partitions.
+    pub fn copied(&self) -> Result<Overlay, AllocError>
+        ensures { IfOk result (λ copy. copy ≡ self.now) }
+    {
+        Ok(Overlay {
+            current: self.current.copied()?,
+            spare: None,
+        })
     }
 
     // The partitions a second time: the spare ones, brought up to date, or a copy where there are none.
@@ -380,11 +441,35 @@ impl Partitions {
     fn leader(&self, part: PartId) -> Option<Leader>
         ensures found { result ≡ option_map leader_of (map.get self.now part.0) }
         ensures named { IfSome result NamesKey }
+        ensures format { IfSome result IsInFormat }
     {
         match self.by_number.get(&part.0) {
             Some(partition) => Some(partition.leader),
             None => None,
         }
+    }
+
+    fn edits(&self, part: PartId) -> Option<&BTreeMap<u32, Option<Piece>>>
+        ensures told { option_map (seen_as (λ piece. piece)) (option_copied result)
+            ≡ option_map (λ p. p.edits) (map.get self.now part.0) }
+        ensures ranks { IfSome result (λ edits. EditsFit map_height edits.now.entries) }
+        ensures pieces { IfSome result (λ edits. EditsLie edits.now.entries) }
+    {
+        match self.by_number.get(&part.0) {
+            Some(partition) => Some(&partition.edits),
+            None => None,
+        }
+    }
+
+    fn numbers(&self, alloc: Global) -> Result<Vec<PartId>, AllocError>
+        ensures told { IfOk result (λ numbers. numbers.items ≡ numbers_told self.now) }
+        ensures in_range { IfOk result (λ numbers. AllByRecursion (λ part. IsPartition part.0) numbers.items) }
+    {
+        let mut numbers = Vec::new(alloc);
+        for (part, _) in self.by_number.iter() {
+            numbers.push(PartId(*part))?;
+        }
+        Ok(numbers)
     }
 
     fn infos(&self, alloc: Global) -> Result<Vec<PartInfo>, AllocError>
@@ -415,7 +500,8 @@ impl Partitions {
     }
 
     fn write(&mut self, part: u32, rank: u32, piece: Piece) -> Result<(), AllocError>
-        requires { rank < 262144 }
+        requires rank { rank < 262144 }
+        requires piece { LiesInOneSegment piece }
         ensures { OnOk result (self.new ≡ with_cover self.old part (option_map (cover_written rank piece) (map.get self.old part))) }
     {
         match self.by_number.get_mut(&part) {
@@ -425,6 +511,7 @@ impl Partitions {
     }
 
     fn free(&mut self, part: u32, rank: u32) -> Result<(), AllocError>
+        requires { rank < 262144 }
         ensures { OnOk result (self.new ≡ with_cover self.old part (option_map (cover_freed rank) (map.get self.old part))) }
     {
         match self.by_number.get_mut(&part) {
@@ -434,7 +521,7 @@ impl Partitions {
     }
 
     fn make(&mut self, alloc: Global, count: u64, entry: &Entry) -> Result<(), AllocError>
-        requires number { (1 ≤ entry.now.part) × (entry.now.part ≤ 4095) }
+        requires number { IsPartition entry.now.part }
         requires some { 1 ≤ count }
         ensures { OnOk result (self.new ≡ map.insert self.old entry.now.part (cover_made count entry.now)) }
     {
@@ -455,7 +542,8 @@ impl Partitions {
     }
 
     fn tell(&mut self, alloc: Global, part: u32, leader: &Leader) -> Result<(), AllocError>
-        requires named { NamesKey leader.now }
+        requires number { IsPartition part }
+        requires format { IsInFormat leader.now }
         ensures { OnOk result (self.new ≡ map.insert self.old part (cover_told leader.now)) }
     {
         let partition = KeptPartition {
@@ -467,6 +555,9 @@ impl Partitions {
     }
 
     fn copy(&mut self, count: u64, from: u32, to: u32) -> Result<(), AllocError>
+        requires from { IsPartition from }
+        requires to { IsPartition to }
+        requires some { 1 ≤ count }
         ensures { OnOk result (self.new ≡ with_cover self.old to (option_map (cover_copied count from) (map.get self.old from))) }
     {
         let Some(source) = self.by_number.get(&from) else {

@@ -23,6 +23,7 @@ use Rattle.tdb_platform.specs.CrashStates.{CrashStates}
 use Rattle.tdb_seal.specs.SealedRecord.{IsSealedRecord}
 use Rattle.tdb_seg.specs.SegmentSpace.{IsSegmentSpace}
 use Rattle.tdb_seg.specs.TableSpace.{table_space}
+use Rattle.tdb_overlay.specs.BaseTree.{TellsRoster}
 use Rattle.tdb_overlay.specs.CheckpointState.{IsNarrow, IsOfRoster, IsReached, IsTreeState}
 use Rattle.tdb_overlay.specs.Covering.{IsCovering}
 use Rattle.tdb_overlay.specs.Found.{Finds, Store, in_trace, store_of_text}
@@ -33,9 +34,9 @@ use Rattle.tdb_overlay.specs.Placement.{LiesBelow}
 use Rattle.tdb_overlay.specs.Reading.{OnlyReads}
 use Rattle.tdb_overlay.specs.Recovered.{IsRecovered}
 use Rattle.tdb_overlay.specs.Required.{IsOpeningPiece, IsRequired}
-use Rattle.tdb_overlay.specs.Roster.{TellsPart}
 use Rattle.tdb_overlay.specs.StoreState.{StoreState, first_state}
 use Rattle.tdb_overlay.specs.declared.recovered.Recovered.{Recovered}
+use Rattle.tdb_overlay.proofs.BaseTrees.{roster_told_at, roster_told_roots, roster_told_those}
 use Rattle.tdb_overlay.proofs.Chains.{chain_in_format}
 use Rattle.tdb_overlay.proofs.LogLaws.{allows, trace_finds_one}
 use Rattle.tdb_overlay.proofs.PlacedLogs.{table_placed}
@@ -193,9 +194,18 @@ module _ (written : List WrittenPiece) (trace : Trace) (secret : List ℕ) (log 
 
   -- what is kept before the first list is read
   pub starts : (step : BaseStep written log base later) (r : Recovered) → r.segments ≡ table_space step.checkpoint.table.table (end_of base.first)
-      → ((part : ℕ) → TellsPart (in_trace written) (store_of_text secret base) base.root r.overlay part) → IsRest written log later r
-  starts step r segments told =
+      → r.tree.root ≡ base.root → r.tree.leaders ≡ r.overlay
+      → TellsRoster (in_trace written) (store_of_text secret base) base.root r.overlay → IsRest written log later r
+  starts step r segments top leaders told =
       let finds = in_trace written in
+      let needs = needed written log.store log.anchor in
+      let root : step.after.root ≡ base.root = ap (λ (s : StoreState). s.root) step.checkpoint.after_is in
+      let tells : TellsRoster finds log.store base.root r.overlay =
+      subst (λ (s : Store). TellsRoster finds s base.root r.overlay) (sym (same_store step)) told in
+      let by_needed : TellsRoster needs log.store step.after.root r.overlay =
+      roster_told_at needs log.store base.root step.after.root r.overlay (sym root)
+      (roster_told_those finds (IsRequired written log.store log.anchor) log.store base.root
+      (λ piece is. reached_needed step piece (inl is)) r.overlay tells) in
       let after : step.after.space ≡ table_space step.checkpoint.table.table (end_of base.first) = ap (λ (s : StoreState). s.space) step.checkpoint.after_is in
       let chunks : step.after.chunks ≡ step.before.chunks = ap (λ (s : StoreState). s.chunks) step.checkpoint.after_is in
       record {
@@ -207,8 +217,10 @@ module _ (written : List WrittenPiece) (trace : Trace) (secret : List ℕ) (log 
           chunks =
               subst (λ (s : State). IsCovering (needed written log.store log.anchor) log.store.secret r.overlay s) (sym chunks)
               (roster_covers finds (trace_finds_one written) log.store base.root step.before.chunks step.checkpoint.tree
-              (IsRequired written log.store log.anchor) (reached_needed step) r.overlay
-              (λ part. subst (λ (s : Store). TellsPart finds s base.root r.overlay part) (sym (same_store step)) (told part)));
+              (IsRequired written log.store log.anchor) (reached_needed step) r.overlay tells);
+          root = top ∙ sym root;
+          leaders = subst (TellsRoster needs log.store step.after.root) (sym leaders) by_needed;
+          roots = roster_told_roots needs log.store step.after.root r.overlay by_needed;
         };
       }
 
@@ -221,7 +233,16 @@ module _ (written : List WrittenPiece) (trace : Trace) (secret : List ℕ) (log 
       let counts = newest_counts written trace secret log given count mark some last in
       let all = counts_of (in_trace written) log.store last.front last.commit log.chain log.history log.last last.parts
       (chain_in_format written (commit_key_of secret) log.anchor.0 log.anchor.1 log.chain given.ends) given.tells in
-      record { suite = suited ∙ base_step.suite; count = counted ∙ sym counts.2; base = based ∙ sym own ∙ sym ends.base ∙ all.base; space = kept.space; chunks = kept.chunks }
+      record {
+        suite = suited ∙ base_step.suite;
+        count = counted ∙ sym counts.2;
+        base = based ∙ sym own ∙ sym ends.base ∙ all.base;
+        space = kept.space;
+        chunks = kept.chunks;
+        root = kept.root;
+        leaders = kept.leaders;
+        roots = kept.roots;
+      }
 
 -- The chain was read, then the table of its checkpoint, and then its roster. What is kept then is where the lists begin.
 module _ {D : Type 0} (outside : D → Outside) (states : D → CrashStates) (numbered : (p : D) → IsTrue (outside p).tells → IsNumbered (outside p).trace)
@@ -263,15 +284,16 @@ module _ {D : Type 0} (outside : D → Outside) (states : D → CrashStates) (nu
 
     pub rest_begins : (r : Recovered)
         → ((table : IsTableIn (outside mid).trace.written (outside then).trace secret base) → r.segments ≡ table_space table.table.table (end_of base.first))
+        → r.tree.root ≡ base.root → r.tree.leaders ≡ r.overlay
         → ((state : State) → IsRosterIn (outside then).trace.written (outside led).trace secret base state
-        → (part : ℕ) → TellsPart (in_trace (outside then).trace.written) (store_of_text secret base) base.root r.overlay part)
+        → TellsRoster (in_trace (outside then).trace.written) (store_of_text secret base) base.root r.overlay)
         → IsRest (outside led).trace.written log later r
-    rest_begins r segments told =
+    rest_begins r segments top leaders told =
         let table = table_in written (outside then).trace secret log given_at_table base later format own ends step_here in
         let here = written_then outside states old mid first t
         (λ ws. (x : IsTableIn ws (outside then).trace secret base) × (x.table.table ≡ step_here.checkpoint.table.table)) table in
         written_then outside states old led all t (λ ws. IsRest ws log later r)
         (starts written (outside led).trace secret log given_at_roster base later format own ends step_here r
-        (segments here.0 ∙ ap (λ (x : Table). table_space x (end_of base.first)) here.1)
-        (λ part. written_back outside states old then both t (λ ws. TellsPart (in_trace ws) (store_of_text secret base) base.root r.overlay part)
-        (told step_here.before.chunks roster_here part)))
+        (segments here.0 ∙ ap (λ (x : Table). table_space x (end_of base.first)) here.1) top leaders
+        (written_back outside states old then both t (λ ws. TellsRoster (in_trace ws) (store_of_text secret base) base.root r.overlay)
+        (told step_here.before.chunks roster_here)))

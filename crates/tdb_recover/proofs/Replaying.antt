@@ -11,6 +11,7 @@ use Rattle.tdb_model.specs.State.{State}
 use Rattle.tdb_platform.specs.Outside.{Anchor}
 use Rattle.tdb_seal.specs.SealedRecord.{IsSealedRecord}
 use Rattle.tdb_seg.specs.SegmentSpace.{SegmentSpace, IsSegmentSpace, note_in}
+use Rattle.tdb_overlay.specs.BaseTree.{HasToldRoots, TellsRoster}
 use Rattle.tdb_overlay.specs.Changes.{AreChangesOf, named_records}
 use Rattle.tdb_overlay.specs.Covering.{Covers, IsCovering, noted_all}
 use Rattle.tdb_overlay.specs.Found.{Store, in_trace}
@@ -18,7 +19,9 @@ use Rattle.tdb_overlay.specs.Keys.{system_key}
 use Rattle.tdb_overlay.specs.Needed.{needed}
 use Rattle.tdb_overlay.specs.Placement.{LiesBelow, note_all}
 use Rattle.tdb_overlay.specs.StoreState.{StoreState}
+use Rattle.tdb_overlay.specs.declared.recovered.BaseTree.{BaseTree}
 use Rattle.tdb_overlay.specs.declared.recovered.Recovered.{Recovered}
+use Rattle.tdb_overlay.proofs.BaseTrees.{noted_all_told, roster_told_at, told_roots_at}
 use Rattle.tdb_overlay.proofs.Coverings.{covering_noted}
 use Rattle.tdb_overlay.proofs.Lengths.{trace_sized}
 use Rattle.tdb_overlay.proofs.LogLaws.{allows}
@@ -75,13 +78,16 @@ module _ (written : List WrittenPiece) (trace : Trace) (secret : List ℕ) (stor
     pub list_lies : IsSegmentSpace r.segments → LiesBelow r.segments.segments c.first
     list_lies valid = all_last (LiesBelow r.segments.segments) (named_records entries_of) c.first (pieces_lie valid)
 
-    pub replayed : (next : Recovered) → next.segments ≡ note_in (note_all r.segments (named_records entries_of)) c.first → next.overlay ≡ noted_all c.count r.overlay entries_of → IsReplayOf (needed written store anchor) store next after
-    replayed next segments overlay =
+    pub replayed : (next : Recovered) → next.segments ≡ note_in (note_all r.segments (named_records entries_of)) c.first
+        → next.overlay ≡ noted_all c.count r.overlay entries_of → next.tree ≡ r.tree
+        → IsReplayOf (needed written store anchor) store next after
+    replayed next segments overlay tree =
         let found = in_trace written in
         let finds = needed written store anchor in
         let allowed = allows store before changes after given.commit.allowed in
         let state : after.chunks ≡ apply_all c.count before.chunks changes =
         ap (λ (s : StoreState). s.chunks) allowed.after_is ∙ ap (λ (n : ℕ). apply_all n before.chunks changes) (sym given.commit.next) in
+        let root : before.root ≡ after.root = sym (ap (λ (s : StoreState). s.root) allowed.after_is) in
         record {
           space =
               segments ∙ sym (note_push r.segments (named_records entries_of) c.first)
@@ -91,4 +97,10 @@ module _ (written : List WrittenPiece) (trace : Trace) (secret : List ℕ) (stor
               subst (λ (covers : Covers). IsCovering finds store.secret covers after.chunks) (sym overlay)
               (subst (λ (s : State). IsCovering finds store.secret (noted_all c.count r.overlay entries_of) s) (sym state)
               (covering_noted finds store.secret c.count r.overlay before.chunks entries_of changes kept.chunks (changes_needed written store anchor store.secret entries_of changes given.records given.commit.list.each) given.commit.owned));
+          root = ap (λ (t : BaseTree). t.root) tree ∙ kept.root ∙ root;
+          leaders = subst (λ (t : BaseTree). TellsRoster finds store after.root t.leaders) (sym tree)
+              (roster_told_at finds store before.root after.root r.tree.leaders root kept.leaders);
+          roots = subst (HasToldRoots finds store after.root) (sym overlay)
+              (noted_all_told finds store after.root c.count r.overlay entries_of
+              (told_roots_at finds store before.root after.root r.overlay root kept.roots));
         }

@@ -48,6 +48,15 @@ listed_at from to (e ∷ es) is (suc i) d below =
     let rest = listed_at (e.0.0 + 1) to es is.1 i d (omega (arith, below)) in
     (omega (arith, rest.0, is.0), listed_later e es (get_or es i d).0.0 (λ same. omega (arith, same, rest.0)) ∙ rest.1)
 
+-- the entry at a place has a rank from the first one on and before the last
+pub entry_within : (from to : ℕ) (es : Listed) → Ascends from to es → (i : ℕ) (d : Rank × Piece) → i < length es
+    → (from ≤ (get_or es i d).0.0) × ((get_or es i d).0.0 < to)
+entry_within from to [] is i d below = absurd (omega (arith, below))
+entry_within from to (e ∷ es) is zero d below = let few = ascends_few (e.0.0 + 1) to es is.1 in (is.0, omega (arith, few))
+entry_within from to (e ∷ es) is (suc i) d below =
+    let rest = entry_within (e.0.0 + 1) to es is.1 i d (omega (arith, below)) in
+    (omega (arith, rest.0, is.0), rest.1)
+
 -- one entry more
 listed_push : (es : Listed) (e : Rank × Piece) (rank : ℕ) → (rank ≡ e.0.0 → ⊥) → listed (es ++ e ∷ []) rank ≡ listed es rank
 listed_push [] e rank other = listed_later e [] rank other

@@ -15,7 +15,7 @@ use Rattle.tdb_platform.specs.CrashStates.{CrashStates, Elapses, now}
 use Rattle.tdb_seg.specs.SegmentSpace.{note_in}
 use Rattle.tdb_overlay.specs.Changes.{named_records}
 use Rattle.tdb_overlay.specs.Covering.{noted_all}
-use Rattle.tdb_overlay.specs.Found.{Store}
+use Rattle.tdb_overlay.specs.Found.{Finer, Store}
 use Rattle.tdb_overlay.specs.Images.{IsIntactIn}
 use Rattle.tdb_overlay.specs.Log.{IsLog}
 use Rattle.tdb_overlay.specs.Needed.{needed}
@@ -26,6 +26,7 @@ use Rattle.tdb_overlay.specs.StoreState.{StoreState}
 use Rattle.tdb_overlay.specs.WellFormedLog.{IsAnchored, IsWellFormedTrace}
 use Rattle.tdb_overlay.specs.declared.recovered.Recovered.{Recovered}
 use Rattle.tdb_overlay.proofs.AdvanceRan.{advance_ran}
+use Rattle.tdb_overlay.proofs.BaseTrees.{roster_told_finer, told_roots_finer}
 use Rattle.tdb_overlay.proofs.Coverings.{covering_finer}
 use Rattle.tdb_overlay.proofs.LogLaws.{Allows, allows}
 use Rattle.tdb_overlay.proofs.Needing.{base_of-last, needed_longer, records_needed}
@@ -240,7 +241,7 @@ module _ {D : Type 0} (outside : D → Outside) (crash_states : D → CrashState
     -- What is open behind the commit.
     module _ (r : Recovered) (suite : r.suite ≡ log.suite) (count : r.head.count ≡ c.count) (based : r.head.base ≡ log.head.base)
         (segments : r.segments ≡ note_in (note_all log.segments (named_records p.entries.items)) c.first)
-        (overlay : r.overlay ≡ noted_all c.count log.overlay p.entries.items) where
+        (overlay : r.overlay ≡ noted_all c.count log.overlay p.entries.items) (tree : r.tree ≡ log.tree) where
       abbrev commit_in : IsCommitIn t.written t store.secret store named from c step.changes step.to
       commit_in = record {
         keys = refl;
@@ -252,19 +253,25 @@ module _ {D : Type 0} (outside : D → Outside) (crash_states : D → CrashState
             pending.kind step.commit.list;
       }
 
+      finer : Finer (needed t.written store head) (needed t.written store named)
+      finer = needed_longer t.written t.written (λ piece bytes found. found) store head named of_head.chain c of_head.ends step.goes_on
+          (base store t unforged kept head text c pending history from of_head)
+
       kept_on : IsReplayOf (needed t.written store named) store log from
       kept_on = record {
         space = knows.space;
-        chunks = covering_finer (needed t.written store head) (needed t.written store named)
-            (needed_longer t.written t.written (λ piece bytes found. found) store head named of_head.chain c of_head.ends step.goes_on
-            (base store t unforged kept head text c pending history from of_head))
-            store.secret log.overlay from.chunks knows.chunks;
+        chunks = covering_finer (needed t.written store head) (needed t.written store named) finer store.secret log.overlay from.chunks
+            knows.chunks;
+        root = knows.root;
+        leaders = roster_told_finer (needed t.written store head) (needed t.written store named) finer store from.root log.tree.leaders
+            knows.leaders;
+        roots = told_roots_finer (needed t.written store head) (needed t.written store named) finer store from.root log.overlay knows.roots;
       }
 
       replay : IsReplayOf (needed t.written store named) store r step.to
       replay = replayed t.written t store.secret store named from c step.changes step.to commit_in log kept_on r
           (segments ∙ ap (λ (es : List Entry). note_in (note_all log.segments (named_records es)) c.first) (sym entries))
-          (overlay ∙ ap (noted_all c.count log.overlay) (sym entries))
+          (overlay ∙ ap (noted_all c.count log.overlay) (sym entries)) tree
 
       abbrev allowed : Allows store from step.changes step.to
       allowed = allows store from step.changes step.to step.commit.allowed
@@ -276,6 +283,9 @@ module _ {D : Type 0} (outside : D → Outside) (crash_states : D → CrashState
         base = based ∙ knows.base ∙ sym (ap (λ (s : StoreState). s.base) allowed.after_is);
         space = replay.space;
         chunks = replay.chunks;
+        root = replay.root;
+        leaders = replay.leaders;
+        roots = replay.roots;
       }
 
       -- Where the anchor was advanced, the log has the commit for its last.

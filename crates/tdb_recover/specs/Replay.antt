@@ -8,6 +8,7 @@ use Rattle.tdb_mark.specs.CommitText.{commit_key_of, commit_of}
 use Rattle.tdb_mark.specs.Unforged.{IsUnforged}
 use Rattle.tdb_model.specs.declared.change.Change.{Change}
 use Rattle.tdb_platform.specs.Outside.{Anchor}
+use Rattle.tdb_overlay.specs.BaseTree.{HasToldRoots, TellsRoster}
 use Rattle.tdb_overlay.specs.Changes.{named_records}
 use Rattle.tdb_overlay.specs.Covering.{IsCovering}
 use Rattle.tdb_overlay.specs.Found.{Finds, Store, in_trace}
@@ -25,10 +26,13 @@ use Rattle.tdb_recover.specs.declared.error.OpenError.TheVariants.{Form}
 abbrev pub IsFormUnless : Type 0 → OpenError → Type 0
 IsFormUnless P error = ((place : Place) × (error ≡ Form place)) × (P → ⊥)
 
--- The segments and the partitions that were taken in so far are those of a state of the store.
+-- The segments and the partitions that were taken in so far, and the tree below them, are those of a state of the store.
 pub record IsReplayOf (finds : Finds) (store : Store) (r : Recovered) (s : StoreState) : Type 0 where
   pub space : r.segments ≡ s.space
   pub chunks : IsCovering finds store.secret r.overlay s.chunks
+  pub root : r.tree.root ≡ s.root
+  pub leaders : TellsRoster finds store s.root r.tree.leaders
+  pub roots : HasToldRoots finds store s.root r.overlay
 
 -- The text is that of a commit on a state of the store, the log of an anchor needs the records that its list names, and
 -- the trace has no collision and no forgery.

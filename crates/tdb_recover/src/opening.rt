@@ -32,7 +32,7 @@ use crate::texts::read_chain;
 use std::alloc::Global;
 use tdb_append::Head;
 use tdb_base::Digest;
-use tdb_overlay::{Keys, Recovered};
+use tdb_overlay::{BaseTree, Keys, Recovered};
 use tdb_platform::Platform;
 
 /// Opens the log whose last text has a count and a mark.
@@ -68,6 +68,10 @@ fn open_log<P: Platform>(
     let base = chain.base;
     let segments = read_segments(alloc, platform, keys, &base)?;
     let overlay = read_roster(alloc, platform, keys, &segments, &base)?;
+    let tree = BaseTree {
+        root: base.root,
+        leaders: overlay.copied()?,
+    };
     let mut log = Recovered {
         suite: base.suite,
         head: Head {
@@ -77,6 +81,7 @@ fn open_log<P: Platform>(
         },
         segments,
         overlay,
+        tree,
     };
     replay(alloc, platform, keys, &mut log, chain)?;
     Ok(log)

@@ -6,7 +6,7 @@ ghost use Rattle.tdb_model.specs.State.{State};
 ghost use Rattle.tdb_node.specs.declared.leader.Leader.{Leader as NodeLeader};
 ghost use Rattle.tdb_overlay.specs.CheckpointState.{IsOfRoster};
 ghost use Rattle.tdb_overlay.specs.Found.{in_trace, store_of_text};
-ghost use Rattle.tdb_overlay.specs.Lookup.{NamesKey};
+ghost use Rattle.tdb_overlay.specs.InRange.{IsInFormat};
 ghost use Rattle.tdb_overlay.specs.Reading.{OnlyReads};
 ghost use Rattle.tdb_overlay.specs.Roster.{TellsPart, kept_of};
 ghost use Rattle.tdb_overlay.specs.Trees.{map_height, nodes_in, roster};
@@ -41,7 +41,7 @@ fn read_partition<P: Platform>(
     piece: &Piece,
 ) -> Result<Leader, OpenError>
     ensures reads { OnlyReads P.outside P.crash_states platform.old platform.new }
-    ensures named { IfOk result NamesKey }
+    ensures format { IfOk result IsInFormat }
     ensures leader { IsTrue (P.outside platform.old).tells → IfOk result (λ leader. (l : NodeLeader)
         → IsLeaderIn (P.outside platform.old).trace.written (P.outside platform.new).trace keys.now suite segments.now.segments part.0
         piece.now l → leader ≡ kept_of l) }

@@ -4,7 +4,7 @@ use Rattle.tdb_base.specs.declared.piece.Place.{Place}
 use Rattle.tdb_base.specs.declared.piece.NoRoom.{NoRoom}
 use Rattle.tdb_seg.specs.SegmentSpace.{SegmentSpace, place_in, fresh_space, with_bytes}
 use Rattle.tdb_overlay.specs.StoreState.{first_place}
-use Rattle.tdb_chunk.proofs.Sealing.{record_fits}
+use Rattle.tdb_overlay.proofs.Sealing.{record_fits}
 use Rattle.tdb_chunk.proofs.Starting.{first_placed, the_start}
 use Rattle.tdb_chunk.proofs.format.first_space.Goals as goal
 

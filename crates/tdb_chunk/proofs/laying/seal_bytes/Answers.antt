@@ -4,7 +4,7 @@ use Rattle.tdb_overlay.specs.Keys.{partition_key}
 use Rattle.tdb_overlay.proofs.Lengths.{sealed_length}
 use Rattle.tdb_chunk.specs.Laying.{name_in}
 use Rattle.tdb_chunk.proofs.Entries.{record_least, record_most}
-use Rattle.tdb_chunk.proofs.Sealing.{sealed_as}
+use Rattle.tdb_overlay.proofs.Sealing.{sealed_as}
 use Rattle.tdb_chunk.proofs.laying.seal_bytes.Goals as goal
 
 pub returns-clause-sealed : goal.returns-clause-sealed

@@ -7,7 +7,8 @@ use Rattle.tdb_overlay.specs.Reading.{OnlyReads}
 use Rattle.tdb_overlay.specs.Sound.{IsSound}
 use Rattle.tdb_overlay.specs.StoreState.{formatted_state}
 use Rattle.tdb_overlay.proofs.ReadingLaws.{reads_none}
-use Rattle.tdb_chunk.specs.Formatting.{Formatted, WritesFirstText, store_under}
+use Rattle.tdb_overlay.specs.Found.{store_under}
+use Rattle.tdb_chunk.specs.Formatting.{Formatted, WritesFirstText}
 use Rattle.tdb_chunk.specs.declared.store_format.FormatError.{FormatError}
 use Rattle.tdb_chunk.specs.declared.store_format.FormatError.TheVariants as errors
 use Rattle.tdb_chunk.proofs.FirstTexts.{first_text_behind, first_text_unwritten}

@@ -1,4 +1,4 @@
-use Rattle.std.proofs.Common.{◌≡◌, ◌+◌, ◌-◌, ◌*◌, ap, arith, length, subst, sym, reverse}
+use Rattle.std.proofs.Common.{◌≡◌, ◌+◌, ◌-◌, ◌*◌, ap, arith, length, refl, subst, sym, reverse}
 use Rattle.tdb_append.specs.declared.head.Head.{Head}
 use Rattle.tdb_overlay.specs.CheckpointState.{IsOfRoster}
 use Rattle.tdb_overlay.specs.Found.{in_trace, store_of_text}
@@ -45,13 +45,19 @@ returns-clause-recovered g c t whole given at =
     let later = reverse chain.commits.items in
     let new = c.replay.new.platform in
     let fourth = c.replay.ensures.reads in
-    let r : Recovered = record { suite = base.suite; head = record { count = c.args.count; mark = c.args.mark; base = base.count }; segments = c.in_ok-segments.segments; overlay = c.in_ok-overlay.overlay } in
+    let r : Recovered = record {
+      suite = base.suite;
+      head = record { count = c.args.count; mark = c.args.mark; base = base.count };
+      segments = c.in_ok-segments.segments;
+      overlay = c.in_ok-overlay.overlay;
+      tree = record { root = base.root; leaders = c.in_ok-copied.field-0 };
+    } in
     let told = tells_then outside states old led all t in
     let grows = fourth.grows told in
     let trace = (outside new).trace in
     let ends = c.in_ok-chain.ensures.ends t whole (given_at_chain outside states numbered old mid then led first second third both all t trace grows keys whole given) at in
     let rest = rest_begins outside states numbered old mid then led first second third both all t trace grows keys whole given base later format own ends r
-    (c.in_ok-segments.ensures.segments (tells_then outside states old mid first t))
+    (c.in_ok-segments.ensures.segments (tells_then outside states old mid first t)) refl c.in_ok-copied.ensures
     (c.in_ok-overlay.ensures.told (tells_then outside states old then both t)) in
     let here = given_then outside states old led all t trace keys whole given in
     let ends_here = written_then outside states old led all t (λ ws. EndsWith ws keys whole.chain base later) ends in
@@ -84,13 +90,19 @@ returns-clause-only g c t whole given at =
     let later = reverse chain.commits.items in
     let new = c.replay.new.platform in
     let fourth = c.replay.ensures.reads in
-    let r : Recovered = record { suite = base.suite; head = record { count = c.args.count; mark = c.args.mark; base = base.count }; segments = c.in_ok-segments.segments; overlay = c.in_ok-overlay.overlay } in
+    let r : Recovered = record {
+      suite = base.suite;
+      head = record { count = c.args.count; mark = c.args.mark; base = base.count };
+      segments = c.in_ok-segments.segments;
+      overlay = c.in_ok-overlay.overlay;
+      tree = record { root = base.root; leaders = c.in_ok-copied.field-0 };
+    } in
     let told = tells_then outside states old led all t in
     let grows = fourth.grows told in
     let trace = (outside new).trace in
     let ends = c.in_ok-chain.ensures.ends t whole (given_at_chain outside states numbered old mid then led first second third both all t trace grows keys whole given) at in
     let rest = rest_begins outside states numbered old mid then led first second third both all t trace grows keys whole given base later format own ends r
-    (c.in_ok-segments.ensures.segments (tells_then outside states old mid first t))
+    (c.in_ok-segments.ensures.segments (tells_then outside states old mid first t)) refl c.in_ok-copied.ensures
     (c.in_ok-overlay.ensures.told (tells_then outside states old then both t)) in
     let here = given_then outside states old led all t trace keys whole given in
     let ends_here = written_then outside states old led all t (λ ws. EndsWith ws keys whole.chain base later) ends in
@@ -115,6 +127,23 @@ returns-in_err-segments-clause-reads g c =
 
 pub returns-in_err-overlay-clause-reads : goal.returns-in_err-overlay-clause-reads
 returns-in_err-overlay-clause-reads g c =
+    let outside = g.P.Platform.outside in
+    let states = g.P.Platform.crash_states in
+    let numbered = g.met.P.Platform.numbered in
+    let counts = g.met.P.Platform.counts in
+    let old = c.args.platform.now in
+    let mid = c.read_chain.new.platform in
+    let then = c.read_segments.new.platform in
+    let led = c.read_roster.new.platform in
+    let first = c.read_chain.ensures.reads in
+    let second = c.read_segments.ensures.reads in
+    let third = c.read_roster.ensures.reads in
+    let both = reads_then outside states counts old mid then first second in
+    let all = reads_then outside states counts old then led both third in
+    all
+
+pub returns-in_err-copied-clause-reads : goal.returns-in_err-copied-clause-reads
+returns-in_err-copied-clause-reads g c =
     let outside = g.P.Platform.outside in
     let states = g.P.Platform.crash_states in
     let numbered = g.met.P.Platform.numbered in
@@ -248,7 +277,13 @@ returns-in_err-replay-clause-explained g c =
     let later = reverse chain.commits.items in
     let new = c.replay.new.platform in
     let fourth = c.replay.ensures.reads in
-    let r : Recovered = record { suite = base.suite; head = record { count = c.args.count; mark = c.args.mark; base = base.count }; segments = c.in_ok-segments.segments; overlay = c.in_ok-overlay.overlay } in
+    let r : Recovered = record {
+      suite = base.suite;
+      head = record { count = c.args.count; mark = c.args.mark; base = base.count };
+      segments = c.in_ok-segments.segments;
+      overlay = c.in_ok-overlay.overlay;
+      tree = record { root = base.root; leaders = c.in_ok-copied.field-0 };
+    } in
     if_err_and c.from_residual-in_err-replay.result _ _ c.from_residual-in_err-replay.ensures.1
     (λ e is t whole given at.
     let told = tells_then outside states old led all t in
@@ -256,7 +291,7 @@ returns-in_err-replay-clause-explained g c =
     let trace = (outside new).trace in
     let ends = c.in_ok-chain.ensures.ends t whole (given_at_chain outside states numbered old mid then led first second third both all t trace grows keys whole given) at in
     let rest = rest_begins outside states numbered old mid then led first second third both all t trace grows keys whole given base later format own ends r
-    (c.in_ok-segments.ensures.segments (tells_then outside states old mid first t))
+    (c.in_ok-segments.ensures.segments (tells_then outside states old mid first t)) refl c.in_ok-copied.ensures
     (c.in_ok-overlay.ensures.told (tells_then outside states old then both t)) in
     let here = given_then outside states old led all t trace keys whole given in
     let ends_here = written_then outside states old led all t (λ ws. EndsWith ws keys whole.chain base later) ends in
@@ -280,6 +315,23 @@ returns-in_err-segments-clause-most g c =
 
 pub returns-in_err-overlay-clause-most : goal.returns-in_err-overlay-clause-most
 returns-in_err-overlay-clause-most g c =
+    let outside = g.P.Platform.outside in
+    let states = g.P.Platform.crash_states in
+    let counts = g.met.P.Platform.counts in
+    let old = c.args.platform.now in
+    let mid = c.read_chain.new.platform in
+    let then = c.read_segments.new.platform in
+    let led = c.read_roster.new.platform in
+    let first = c.read_chain.ensures.reads in
+    let second = c.read_segments.ensures.reads in
+    let third = c.read_roster.ensures.reads in
+    let both = reads_then outside states counts old mid then first second in
+    beside_roster outside states old then led both third 2002 4161
+    (most_then outside states 1001 1 2002 old mid then (omega arith) first second c.read_chain.ensures.most c.read_segments.ensures.most)
+    c.read_roster.ensures.most
+
+pub returns-in_err-copied-clause-most : goal.returns-in_err-copied-clause-most
+returns-in_err-copied-clause-most g c =
     let outside = g.P.Platform.outside in
     let states = g.P.Platform.crash_states in
     let counts = g.met.P.Platform.counts in

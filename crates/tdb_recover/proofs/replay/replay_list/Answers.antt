@@ -1,4 +1,4 @@
-use Rattle.std.proofs.Common.{◌≡◌, ◌∙◌, ◌<◌, ap, sym, subst, List, ℕ}
+use Rattle.std.proofs.Common.{◌≡◌, ◌∙◌, ◌<◌, ap, refl, sym, subst, List, ℕ}
 use Rattle.std.specs.List.{AllByRecursion}
 use Rattle.tdb_list.specs.declared.entry.Entry.{Entry}
 use Rattle.tdb_seg.specs.SegmentSpace.{SegmentSpace, note_in}
@@ -55,4 +55,4 @@ returns-clause-replayed g c t store anchor before changes after given kept =
     let second = c.as_slice-2.ensures.value ∙ items in
     replayed old.trace.written new.trace keys store anchor before text changes after given c.args.log.now kept _
     (c.note.ensures ∙ ap (λ (s : SegmentSpace). note_in s text.first) (c.in_ok-note_records.ensures.ok ∙ ap (λ (l : List Entry). note_all c.args.log.now.segments (named_records l)) first))
-    (c.in_ok-note.ensures.ok ∙ ap (noted_all text.count c.args.log.now.overlay) second)
+    (c.in_ok-note.ensures.ok ∙ ap (noted_all text.count c.args.log.now.overlay) second) refl

@@ -57,6 +57,6 @@ returns-clause-leader g c t l given =
     let new = g.P.Platform.outside c.open_record.new.platform in
     let is = c.deref.ensures.value ∙ c.in_ok-plain.ensures.plain t given.is.plain
     (leader_record old.trace.written new.trace c.args.keys.now c.args.suite c.args.segments.now.segments c.args.part.0 c.args.piece.now l given) in
-    c.kept.ensures
+    c.kept.ensures.fields
     ∙ ap (λ (x : NodeLeader). kept_of x) (leader_is old.trace.written new.trace c.args.keys.now c.args.suite c.args.segments.now.segments
     c.args.part.0 c.args.piece.now l given c.in-Ok.leader c.deref.result.now is c.in-Ok.ensures.found)

@@ -18,7 +18,7 @@ use Rattle.tdb_recover.proofs.Answering.{if_err_and}
 use Rattle.tdb_recover.proofs.Composing.{explained_then, tells_then, written_then}
 use Rattle.tdb_recover.proofs.Counted.{most_as, most_then}
 use Rattle.tdb_recover.proofs.Only.{only_as, only_then}
-use Rattle.tdb_recover.proofs.RosterLists.{ascends_few, no_entry}
+use Rattle.tdb_recover.proofs.RosterLists.{ascends_few, entry_within, no_entry}
 use Rattle.tdb_recover.proofs.Rosters.{entry_at, leader_in, leader_of_roster, roster_before, told_next}
 use Rattle.tdb_recover.proofs.Showing.{explained_as}
 use Rattle.tdb_recover.proofs.roster.read_roster.Goals as goal
@@ -173,3 +173,10 @@ returns-clause-most g c =
     let few = ascends_few 1 4096 es (subst (Ascends 1 4096) (sym c.deref-part-items.ensures.value) c.in_ok-parts.ensures.ascends) in
     most_as (66 + c.loop-part.part-index) 4161 (outside c.args.platform.now) (outside c.loop-part.platform)
     (omega (arith, few, c.loop-part.auto.part-index-end)) c.loop-part.invariant.most
+
+pub tell-requires-clause-number : goal.tell-requires-clause-number
+tell-requires-clause-number g c =
+    let es = c.deref-part-items.result.now in
+    let ascends : Ascends 1 4096 es = subst (Ascends 1 4096) (sym c.deref-part-items.ensures.value) c.in_ok-parts.ensures.ascends in
+    let within = entry_within 1 4096 es ascends c.loop-part.part-index no_entry c.loop-part-test.true in
+    (within.0, omega (arith, within.1))

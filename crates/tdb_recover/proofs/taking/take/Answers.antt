@@ -80,5 +80,5 @@ returns-clause-taken g c begun secret store history from whole =
     (c.note.ensures
     ∙ ap (λ (s : SegmentSpace). note_in s p.commit.first)
     (c.in-Ok.ensures.ok ∙ ap (λ (es : List Entry). note_all log.segments (named_records es)) c.as_slice.ensures.value))
-    (c.in-Ok-note.ensures.ok ∙ ap (noted_all p.commit.count log.overlay) c.as_slice-2.ensures.value)
+    (c.in-Ok-note.ensures.ok ∙ ap (noted_all p.commit.count log.overlay) c.as_slice-2.ensures.value) refl
     c.in-Ok-advance.field-0 c.in-Ok-advance.is

@@ -9,9 +9,9 @@ use Rattle.tdb_overlay.specs.StoreState.{kept_free}
 use Rattle.tdb_parts.specs.BareState.{bare_state}
 use Rattle.tdb_chunk.specs.Committing.{IsCommitCall}
 use Rattle.tdb_chunk.specs.Known.{IsAtHead, store_of}
-use Rattle.tdb_chunk.specs.LaidOut.{LaidOut}
+use Rattle.tdb_overlay.specs.LaidOut.{LaidOut}
 use Rattle.tdb_chunk.specs.Preparing.{IsPrepared}
-use Rattle.tdb_chunk.specs.declared.batch.LayError.{LayError}
+use Rattle.tdb_overlay.specs.declared.batch.LayError.{LayError}
 use Rattle.tdb_chunk.specs.declared.open_log.OpenLog.{OpenLog}
 use Rattle.tdb_chunk.proofs.Calling.{if_no_room, refusal_is_no_fault, refused_call, refused_is_no_fault}
 use Rattle.tdb_chunk.proofs.Prepared.{all_list, all_prepared, record_refused}

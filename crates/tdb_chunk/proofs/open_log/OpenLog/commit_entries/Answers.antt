@@ -10,7 +10,7 @@ use Rattle.tdb_model.specs.declared.error.CommitError.TheVariants as refusals
 use Rattle.tdb_overlay.specs.Covering.{Covers, noted_all}
 use Rattle.tdb_overlay.specs.SealedOnly.{IsRecord}
 use Rattle.tdb_chunk.specs.Known.{store_of}
-use Rattle.tdb_chunk.specs.declared.batch.LayError.{LayError}
+use Rattle.tdb_overlay.specs.declared.batch.LayError.{LayError}
 use Rattle.tdb_chunk.proofs.Calling.{PutCommit, done_call, fault_call, refused_call, refused_is_no_fault, if_no_room}
 use Rattle.tdb_chunk.proofs.Committing.{list_refused}
 use Rattle.tdb_chunk.proofs.Unchanged.{same_but}
@@ -35,7 +35,8 @@ returns-in-Err-clause-commit g c = λ changes prepared.
 pub returns-in_default-clause-commit : goal.returns-in_default-clause-commit
 returns-in_default-clause-commit g c = λ changes prepared.
     refused_call g.P.Platform.outside g.P.Platform.crash_states g.met.P.Platform.counts changes c.args.self.now _ c.args.platform.now refusals.Memory c.requires.settled
-    (λ is. cc) (same_but _ c.args.self.now refl refl refl refl c.reserve.ensures.stays) (λ last known refusal. absurd (false≢true refusal))
+    (λ is. cc) (same_but _ c.args.self.now refl refl refl refl c.reserve.ensures.stays refl)
+    (λ last known refusal. absurd (false≢true refusal))
 
 pub put_commit-requires-clause-in_segments : goal.put_commit-requires-clause-in_segments
 put_commit-requires-clause-in_segments g c = subst (λ (l : List Laid). All FitsOneSegment (placed l)) (sym c.deref.ensures.value) c.in-Ok.ensures.next.laid.in_segments
@@ -70,7 +71,7 @@ returns-in_default-put_commit-clause-commit g c = λ changes prepared.
     fault_call outside crash_states g.met.P.Platform.counts was c.args.keep c.args.entries.now (placed c.args.batch.pieces.items) c.args.batch.segments changes old new prepared c.requires.list c.requires.values c.requires.not_full c.requires.counts_on
     commit ps batch.segments c.in-Ok.ensures.next c.requires.at_head c.requires.settled _ c.in_default-put_commit.field-0
     (subst (λ (r : Result Head Failed). PutCommit outside crash_states was.keys was.log.head commit ps old new r) c.in_default-put_commit.is laid)
-    (same_but _ was refl refl refl refl c.reserve.ensures.stays)
+    (same_but _ was refl refl refl refl c.reserve.ensures.stays refl)
 
 pub returns-clause-commit : goal.returns-clause-commit
 returns-clause-commit g c = λ changes prepared.
@@ -100,4 +101,4 @@ returns-clause-commit g c = λ changes prepared.
     commit ps batch.segments c.in-Ok.ensures.next c.requires.at_head c.requires.settled _ tt c.in-Ok-put_commit.head
     (subst (λ (r : Result Head Failed). PutCommit outside crash_states was.keys was.log.head commit ps old new r) c.in-Ok-put_commit.is laid) refl refl refl refl
     (c.take_in.ensures ∙ taken c.in-Ok-reserve.reserved.count commit.count _ was.log.overlay c.in-Ok-reserve.reserved.entries.items c.args.entries.now
-    c.in-Ok-reserve.ensures.same c.reserve.ensures.stays)
+    c.in-Ok-reserve.ensures.same c.reserve.ensures.stays) refl

@@ -1,4 +1,4 @@
-use Rattle.std.proofs.Common.{List, ℕ, ◌++◌, [], ◌∷◌, refl, sym, ap, ◌∙◌, arith, subst}
+use Rattle.std.proofs.Common.{List, None, ℕ, ◌++◌, [], ◌∷◌, refl, sym, ap, ◌∙◌, arith, subst}
 use Rattle.std.specs.Prelude.{All, AllPairs}
 use Rattle.tdb_append.specs.declared.laid.Laid.{Laid}
 use Rattle.tdb_append.specs.Placed.{FitsOneSegment, IsApart, Placed, placed}
@@ -6,19 +6,22 @@ use Rattle.tdb_append.specs.Put.{Puts}
 use Rattle.tdb_append.specs.declared.head.Head.{Head}
 use Rattle.tdb_mark.specs.declared.commit.Commit.{Commit}
 use Rattle.tdb_model.specs.State.{no_partitions}
+use Rattle.tdb_overlay.specs.BaseTree.{HasToldRoots, TellsRoster}
 use Rattle.tdb_overlay.specs.Covering.{Covers, IsCovering}
-use Rattle.tdb_overlay.specs.Found.{Finds, Store}
+use Rattle.tdb_overlay.specs.Found.{Finds, Store, store_under}
 use Rattle.tdb_overlay.specs.Needed.{needed}
 use Rattle.tdb_overlay.specs.SealedOnly.{IsRecord}
+use Rattle.tdb_overlay.proofs.BaseTrees.{no_roster_told, none_told}
 use Rattle.tdb_overlay.proofs.Coverings.{covering_none}
-use Rattle.tdb_chunk.specs.Formatting.{Formatted, store_under}
-use Rattle.tdb_chunk.specs.Stepping.{IsPutStep}
-use Rattle.tdb_chunk.specs.Text.{anchor_of, text_in_slot}
+use Rattle.tdb_chunk.specs.Formatting.{Formatted}
+use Rattle.tdb_overlay.specs.PutStep.{IsPutStep}
+use Rattle.tdb_overlay.specs.Text.{anchor_of, text_in_slot}
 use Rattle.tdb_chunk.proofs.FirstTexts.{first_text}
 use Rattle.tdb_chunk.proofs.Growing.{added_always, added_err, added_ok, none_added}
 use Rattle.tdb_overlay.proofs.PutLogs.{unread_by}
 use Rattle.tdb_chunk.proofs.Starting.{format_added}
-use Rattle.tdb_chunk.proofs.Stepping.{format_goes_on, none_by, step_err, step_ok}
+use Rattle.tdb_chunk.proofs.Stepping.{format_goes_on}
+use Rattle.tdb_overlay.proofs.StepResults.{none_by, step_err, step_ok}
 use Rattle.tdb_chunk.proofs.open_log.OpenLog.format.Goals as goal
 
 pub put_commit-requires-clause-in_segments : goal.put_commit-requires-clause-in_segments
@@ -105,7 +108,8 @@ pub returns-clause-knows : goal.returns-clause-knows
 returns-clause-knows g c =
     let o = g.P.Platform.outside c.put_commit.new.platform in
     let secret : List ℕ = c.args.keys in
-    let finds : Finds = needed o.trace.written (store_under secret c.args.suite) o.anchor in
+    let store : Store = store_under secret c.args.suite in
+    let finds : Finds = needed o.trace.written store o.anchor in
     let head = c.in-Ok.ensures.head in
     let start = c.in_ok-commit.ensures.start in
     record {
@@ -114,6 +118,9 @@ returns-clause-knows g c =
       base = ap (λ (h : Head). h.base) head ∙ c.no_head-head.ensures.base;
       space = start.is_first;
       chunks = subst (λ (covers : Covers). IsCovering finds secret covers no_partitions) (sym c.new.ensures) (covering_none finds secret);
+      root = refl;
+      leaders = subst (TellsRoster finds store None) (sym c.new-2.ensures) (no_roster_told finds store);
+      roots = subst (HasToldRoots finds store None) (sym c.new.ensures) (none_told finds store None);
     }
 
 pub returns-in_err-commit-clause-steps : goal.returns-in_err-commit-clause-steps

@@ -9,14 +9,14 @@ use Rattle.tdb_parts.specs.BareState.{bare_state}
 use Rattle.tdb_seg.specs.SegmentSpace.{SegmentSpace, fits}
 use Rattle.tdb_overlay.specs.StoreState.{record_of_change, records_of}
 use Rattle.tdb_chunk.specs.Known.{store_of}
-use Rattle.tdb_chunk.specs.LaidOut.{LaidOut}
+use Rattle.tdb_overlay.specs.LaidOut.{LaidOut}
 use Rattle.tdb_chunk.specs.Laying.{AreAllLaid, IsLaid, PassesBehind, told_behind}
-use Rattle.tdb_chunk.specs.declared.batch.LayError.{LayError}
+use Rattle.tdb_overlay.specs.declared.batch.LayError.{LayError}
 use Rattle.tdb_chunk.specs.declared.open_log.OpenLog.{OpenLog}
-use Rattle.tdb_chunk.specs.declared.batch.LayError.TheVariants.{NoRoom}
+use Rattle.tdb_overlay.specs.declared.batch.LayError.TheVariants.{NoRoom}
 use Rattle.tdb_chunk.proofs.Entries.{all_laid_more, all_refused, none_laid}
 use Rattle.tdb_chunk.proofs.Owners.{passes_before, passes_behind}
-use Rattle.tdb_chunk.proofs.Placing.{laid_out_none}
+use Rattle.tdb_overlay.proofs.LaidOutLaws.{laid_out_none}
 use Rattle.tdb_chunk.proofs.open_log.OpenLog.lay_changes.Goals as goal
 
 the_error : {T : Type 0} (a b : LayError) → ◌≡◌ {A = Result T LayError} (Err a) (Err b) → a ≡ b

@@ -6,8 +6,8 @@ use Rattle.std.proofs.Common.{ℕ, Err, Result}
 use Rattle.tdb_model.specs.declared.change.Change.TheVariants.{Write}
 use Rattle.tdb_seg.specs.SegmentSpace.{place_in}
 use Rattle.tdb_chunk.specs.Laying.{IsLaid}
-use Rattle.tdb_chunk.specs.declared.batch.LayError.{LayError}
-use Rattle.tdb_chunk.specs.declared.batch.LayError.TheVariants.{NoRoom}
+use Rattle.tdb_overlay.specs.declared.batch.LayError.{LayError}
+use Rattle.tdb_overlay.specs.declared.batch.LayError.TheVariants.{NoRoom}
 use Rattle.tdb_chunk.proofs.Entries.{write_laid}
 use Rattle.tdb_chunk.proofs.open_log.OpenLog.lay_write.Goals as goal
 

@@ -4,8 +4,8 @@ use Rattle.tdb_model.specs.Memory.{seen_as}
 use Rattle.tdb_model.proofs.MemoryLemmas.{seen_inserted}
 use Rattle.tdb_overlay.proofs.kept.KeptPartition.write.Goals as goal
 
-pub returns : goal.returns
-returns c =
+pub returns-clause-ok : goal.returns-clause-ok
+returns-clause-ok c =
     let old = c.args.self.now in
     let next : c.max-self.result ≡ max old.leader.next (c.args.rank + 1) = search rules in
     let edits : seen_as (λ piece. piece) c.insert.new.self ≡ insert (seen_as (λ piece. piece) old.edits) c.args.rank (Some c.args.piece) =

@@ -1,17 +1,15 @@
--- Records that are placed one after another, and what a put of them hands to the device.
-use Rattle.std.proofs.Common.{◌≡◌, inl, inr, ◌+◌, ◌≤◌, ℕ, List, [], ◌∷◌, ◌++◌, Ok, length, get_or, refl, sym, ◌∙◌, ap, arith, subst}
+-- Records that are placed one after another.
+use Rattle.std.proofs.Common.{◌≡◌, inl, inr, ◌≤◌, ℕ, List, [], ◌∷◌, ◌++◌, Ok, length, get_or, refl, sym, arith, subst}
 use Rattle.std.specs.Prelude.{All, AllPairs}
 use Rattle.std.proofs.lemmas.Bool.{cases_lt}
-use Rattle.std.proofs.lemmas.List.{length-append, length_push, get_or_append_left, get_or_at, append-nil, append_assoc}
-use Rattle.std.proofs.lemmas.List.Elements.{All-push, All-append, All-tail}
+use Rattle.std.proofs.lemmas.List.{length_push, get_or_append_left, get_or_at}
+use Rattle.std.proofs.lemmas.List.Elements.{All-push}
 use Rattle.tdb_base.specs.declared.piece.Place.{Place}
-use Rattle.tdb_base.specs.Trace.{Trace, WrittenPiece, with_written, calls_in}
-use Rattle.tdb_append.specs.Placed.{Placed, FitsOneSegment, IsApart, with_all_written}
-use Rattle.tdb_append.specs.Put.{slot_place}
+use Rattle.tdb_append.specs.Placed.{Placed, FitsOneSegment, IsApart}
 use Rattle.tdb_seg.specs.SegmentSpace.{SegmentSpace, IsSegmentSpace, IsPlacedIn, place_in, with_bytes}
 use Rattle.tdb_seg.proofs.PlacingLaws.{IsFreshPlace, fresh-apart, now-placed, place_in-is, placed-stays, with_bytes-valid}
-use Rattle.tdb_overlay.specs.SealedOnly.{IsRecord, IsTextInSlot, IsSealedPiece, WritesOnlySealed}
-use Rattle.tdb_chunk.specs.LaidOut.{IsFreshIn, LaidOut}
+use Rattle.tdb_overlay.specs.SealedOnly.{IsRecord}
+use Rattle.tdb_overlay.specs.LaidOut.{IsFreshIn, LaidOut}
 
 all_pairs_push : {X : Type 0} (R : X → X → Type 0) (xs : List X) (x : X) → AllPairs R xs → All (λ y. R y x) xs → AllPairs R (xs ++ x ∷ [])
 all_pairs_push {X} R xs x pairs last i j d before within =
@@ -74,38 +72,3 @@ pub laid_out_push : (secret : List ℕ) (start space next : SegmentSpace) (ps : 
 laid_out_push secret start space next ps place bytes keep laid is some most e =
     let one = place_in-is space laid.valid (length bytes) keep place next some most e in
     subst (λ (s : SegmentSpace). LaidOut secret start s (ps ++ record { place = place.0; bytes = bytes } ∷ [])) (sym one.after) (pushed secret start space ps place bytes laid is one.fresh)
-
-pub sealed_none : (secret : List ℕ) (t : Trace) → WritesOnlySealed secret t t
-sealed_none secret t = record { more = []; written = sym (append-nil t.written); each = λ k d within. absurd (omega (arith, within)) }
-
-sealed_one : (secret : List ℕ) (t : Trace) (place : ℕ) (bytes : List ℕ) → IsSealedPiece secret place bytes → WritesOnlySealed secret t (with_written t place bytes)
-sealed_one secret t place bytes is =
-    let w : WrittenPiece = record { bytes = bytes; place = place; call = calls_in t + 1 } in
-    record { more = w ∷ []; written = refl; each = All-push (λ (x : WrittenPiece). IsSealedPiece secret x.place x.bytes) [] w (λ k d within. absurd (omega (arith, within))) is }
-
--- What was written since a trace and since a later one, all of it is sealed.
-pub sealed_along : (secret : List ℕ) (t u v : Trace) → WritesOnlySealed secret t u → WritesOnlySealed secret u v → WritesOnlySealed secret t v
-sealed_along secret t u v first second = record {
-  more = first.more ++ second.more;
-  written = second.written ∙ ap (λ (l : List WrittenPiece). l ++ second.more) first.written ∙ append_assoc t.written first.more second.more;
-  each = All-append (λ (w : WrittenPiece). IsSealedPiece secret w.place w.bytes) first.more second.more first.each second.each;
-}
-
-sealed_all : (secret : List ℕ) (t : Trace) (ps : List Placed) → All (λ (p : Placed). IsSealedPiece secret p.place p.bytes) ps → WritesOnlySealed secret t (with_all_written t ps)
-sealed_all secret t [] all = sealed_none secret t
-sealed_all secret t (p ∷ ps) all =
-    let next : Trace = with_written t p.place p.bytes in
-    sealed_along secret t next (with_all_written next ps) (sealed_one secret t p.place p.bytes (all 0 p (omega arith)))
-    (sealed_all secret next ps (All-tail (λ (q : Placed). IsSealedPiece secret q.place q.bytes) p ps all))
-
--- Of the records of a batch and a text in its slot, a front was written.
-pub put_sealed : (secret : List ℕ) (count : ℕ) (ps done rest : List Placed) (text : List ℕ) (t u : Trace) → All (λ (p : Placed). IsRecord secret p.bytes) ps → All FitsOneSegment ps → IsTextInSlot secret (slot_place count) text
-    → ps ++ record { place = slot_place count; bytes = text } ∷ [] ≡ done ++ rest → u ≡ with_all_written t done → WritesOnlySealed secret t u
-put_sealed secret count ps done rest text t u records in_segments is in_order wrote =
-    let P : Placed → Type 0 = λ p. IsSealedPiece secret p.place p.bytes in
-    let slot : Placed = record { place = slot_place count; bytes = text } in
-    let in_slot : IsSealedPiece secret slot.place slot.bytes = inr is in
-    let all : All P (ps ++ slot ∷ []) = All-push P ps slot (λ k d within. inl (records k d within, in_segments k d within)) in_slot in
-    let front : All P done = λ k d within.
-    subst P (get_or_append_left done rest d k within) (subst (All P) in_order all k d (omega (arith, length-append done rest, within))) in
-    subst (WritesOnlySealed secret t) (sym wrote) (sealed_all secret t done front)

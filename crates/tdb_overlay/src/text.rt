@@ -1,4 +1,4 @@
-//! The next text of the log, with the records of its commit.
+//! The next text of the log, with the records that it names.
 ghost use Rattle.std.specs.Prelude.{◌≡◌, ◌+◌, ◌<◌, ◌++◌, ◌∷◌, [], ℕ, List, All, AllPairs, IfOk, OnOk, IsTrue, Some};
 ghost use Rattle.tdb_append.specs.Placed.{FitsOneSegment, IsApart, placed};
 ghost use Rattle.tdb_append.specs.Put.{Puts};
@@ -7,17 +7,18 @@ ghost use Rattle.tdb_mark.specs.CommitFormat.{IsCommitValue, IsInFormat};
 ghost use Rattle.tdb_platform.specs.Outside.{Anchor, Told};
 ghost use Rattle.tdb_platform.specs.CrashStates.{now};
 ghost use Rattle.tdb_overlay.specs.SealedOnly.{IsRecord, OnlySealed};
-ghost use Rattle.tdb_chunk.specs.Stepping.{IsPutStep};
-ghost use Rattle.tdb_chunk.specs.Text.{anchor_of, next_head, text_in_slot, text_of};
+ghost use Rattle.tdb_overlay.specs.PutStep.{IsPutStep};
+ghost use Rattle.tdb_overlay.specs.Text.{anchor_of, next_head, text_in_slot, text_of};
 
+use crate::keys::Keys;
 use tdb_append::{Head, Laid, put};
 use tdb_base::Failed;
 use tdb_mark::{Commit, write_commit_with};
-use tdb_overlay::Keys;
 use tdb_platform::Platform;
 
-/// Puts the records of a commit and its text, and gives the new head. It takes no memory.
-pub(crate) fn put_commit<P: Platform>(
+/// Puts the records of a commit or a checkpoint and its text, and gives the new head. It takes no memory. After
+/// `Err(Failed)` the text stands or not.
+pub fn put_commit<P: Platform>(
     platform: &mut P,
     keys: &Keys,
     head: &Head,

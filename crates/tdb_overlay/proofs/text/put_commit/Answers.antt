@@ -12,9 +12,9 @@ use Rattle.tdb_platform.specs.CrashStates.{now}
 use Rattle.tdb_overlay.specs.NextText.{IsLaidText}
 use Rattle.tdb_overlay.specs.SealedOnly.{IsTextInSlot}
 use Rattle.tdb_overlay.proofs.PutRan.{put_ran}
-use Rattle.tdb_chunk.specs.Formatting.{store_under}
-use Rattle.tdb_chunk.proofs.Placing.{put_sealed}
-use Rattle.tdb_chunk.proofs.text.put_commit.Goals as goal
+use Rattle.tdb_overlay.specs.Found.{store_under}
+use Rattle.tdb_overlay.proofs.SealedPuts.{put_sealed}
+use Rattle.tdb_overlay.proofs.text.put_commit.Goals as goal
 
 pub returns-clause-sealed : goal.returns-clause-sealed
 returns-clause-sealed g c records tells =

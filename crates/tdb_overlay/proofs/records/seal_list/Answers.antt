@@ -5,9 +5,9 @@ use Rattle.tdb_list.proofs.ListSpelling.{length-list_bytes}
 use Rattle.tdb_overlay.proofs.Lengths.{sealed_length}
 use Rattle.tdb_overlay.specs.Keys.{system_key}
 use Rattle.tdb_overlay.specs.StoreState.{record_length}
-use Rattle.tdb_chunk.specs.Names.{list_name}
-use Rattle.tdb_chunk.proofs.Sealing.{sealed_as}
-use Rattle.tdb_chunk.proofs.records.seal_list.Goals as goal
+use Rattle.tdb_overlay.specs.Names.{list_name}
+use Rattle.tdb_overlay.proofs.Sealing.{sealed_as}
+use Rattle.tdb_overlay.proofs.records.seal_list.Goals as goal
 
 pub seal_system-requires : goal.seal_system-requires
 seal_system-requires c =

@@ -5,9 +5,9 @@ use Rattle.tdb_node.proofs.TableSpelling.{length-table_bytes}
 use Rattle.tdb_overlay.proofs.Lengths.{sealed_length}
 use Rattle.tdb_overlay.specs.Keys.{system_key}
 use Rattle.tdb_overlay.specs.StoreState.{record_length}
-use Rattle.tdb_chunk.specs.Names.{table_name}
-use Rattle.tdb_chunk.proofs.Sealing.{sealed_as}
-use Rattle.tdb_chunk.proofs.records.seal_table.Goals as goal
+use Rattle.tdb_overlay.specs.Names.{table_name}
+use Rattle.tdb_overlay.proofs.Sealing.{sealed_as}
+use Rattle.tdb_overlay.proofs.records.seal_table.Goals as goal
 
 pub seal_system-requires : goal.seal_system-requires
 seal_system-requires c =

@@ -8,13 +8,13 @@ ghost use Rattle.tdb_seal.specs.SealedRecord.{IsSealedRecord};
 ghost use Rattle.tdb_overlay.specs.Keys.{system_key};
 ghost use Rattle.tdb_overlay.specs.SealedOnly.{IsRecord};
 ghost use Rattle.tdb_overlay.specs.StoreState.{record_length};
-ghost use Rattle.tdb_chunk.specs.Names.{list_name, table_name};
+ghost use Rattle.tdb_overlay.specs.Names.{list_name, table_name};
 
+use crate::keys::Keys;
 use std::alloc::{AllocError, Global};
 use tdb_base::Suite;
 use tdb_list::{Entry, write_list};
 use tdb_node::{Table, write_table};
-use tdb_overlay::Keys;
 use tdb_seal::Name;
 
 const TABLE: u32 = 4;
@@ -22,7 +22,7 @@ const TABLE: u32 = 4;
 const LIST: u32 = 5;
 
 /// Seals a segment table in the suite of its store.
-pub(crate) fn seal_table(
+pub fn seal_table(
     alloc: Global,
     keys: &Keys,
     suite: Suite,
@@ -46,7 +46,7 @@ pub(crate) fn seal_table(
 }
 
 /// Seals a list of changes in the suite of its store.
-pub(crate) fn seal_list(
+pub fn seal_list(
     alloc: Global,
     keys: &Keys,
     suite: Suite,
