@@ -1,6 +1,6 @@
 #!/usr/bin/env bash
-# Makes a database on real files, commits a note to it, reads it in a later run, and has the device altered behind its
-# back. It checks every answer and place.
+# Makes a database on real files, commits a note to it, reads it in a later run, has the device altered behind its back,
+# and copies the notes. It checks every answer and place.
 #
 #   ./demo.sh            in a temporary folder, which is removed at the end
 #   ./demo.sh FOLDER     in that folder, which must not be there yet, and stays
@@ -217,5 +217,40 @@ cat replies
 echo "status $status"
 expect "the status" 4 "$status"
 expect "the last line" "tampered 768 $(mark_of_anchor) $(piece 768 256 | sha256sum | head -c 64)" "$(cat replies)"
+
+echo "== A new store under a new secret, and a copy of its notes as partition 3: a note that is committed behind the copy isn't in it"
+: >device
+: >anchor
+head -c 32 /dev/urandom >secret
+printf '%s\n' 'begin 1' 'new 1 note one' 'commit 1' 'snapshot 3' 'begin 2' 'new 2 note two' 'commit 2' 'parts' 'peek 3 1' 'peek 3 2' \
+    'quit' >script
+tdb start plain 16 <script
+paste -d '|' script replies | sed 's/|/   ->   /'
+expect "the status" 0 "$status"
+expect "the replies" "begun 1
+made 1 1
+committed 1
+snapshot 3
+begun 2
+made 2 2
+committed 2
+parts 3 1 2 3
+peeked 3 1 note one
+refused no object 3 2
+bye" "$(cat replies)"
+
+echo "== In a later run the copy is dropped: it is gone, and the notes stay"
+printf '%s\n' 'peek 3 1' 'drop 3' 'parts' 'peek 3 1' 'begin 1' 'get 1 1' 'get 1 2' 'quit' >script
+tdb run <script
+paste -d '|' script replies | sed 's/|/   ->   /'
+expect "the status" 0 "$status"
+expect "the replies" "peeked 3 1 note one
+dropped 3
+parts 2 1 2
+refused partition 3
+begun 1
+got 1 1 note one
+got 1 2 note two
+bye" "$(cat replies)"
 
 echo "== All as it should be"

@@ -1,4 +1,4 @@
--- A commit of the notes of a transaction.
+-- Lines that commit: the notes of a transaction, or one change of a partition.
 use Rattle.std.proofs.Common.{◌≡◌, ◌≢◌, ◌⊎◌, ◌<◌, ◌≤◌, inl, inr, ⊎_elim, ℕ, List, [], ◌∷◌, Option, Some, None, length, false, refl, sym}
 use Rattle.std.proofs.Common.{◌∙◌, ap, subst, arith}
 use Rattle.std.proofs.lemmas.Bool.{false≢true, lt-ltb}
@@ -6,7 +6,7 @@ use Rattle.std.specs.Prelude.{Err, IfErr, IfOk, Ok, OnOk, Result, if◌then◌el
 use Rattle.tdb_base.specs.declared.names.TxId.{TxId}
 use Rattle.tdb_base.specs.declared.piece.NoRoom.{NoRoom}
 use Rattle.tdb_base.specs.declared.suite.Suite.TheVariants.{Plain}
-use Rattle.tdb_model.specs.Apply.{apply_all}
+use Rattle.tdb_model.specs.Apply.{History, apply_all}
 use Rattle.tdb_model.specs.Check.{check, check_commit}
 use Rattle.tdb_model.specs.HasCommitted.{HasCommitted}
 use Rattle.tdb_model.specs.IsLawful.{IsLawful}
@@ -18,15 +18,16 @@ use Rattle.tdb_model.specs.declared.error.CommitError.TheVariants as errors
 use Rattle.tdb_model.specs.InMemory.{InMemory}
 use Rattle.tdb_model.specs.Limits.{change_limit}
 use Rattle.tdb_model.proofs.RefusalLemmas.{refused_in_memory}
-use Rattle.tdb_script.specs.LineSpelling.{commit}
+use Rattle.tdb_script.specs.LineSpelling.{LineValue, commit}
 use Rattle.tdb_script.specs.declared.reply.Reply.{Reply}
 use Rattle.tdb_script.specs.declared.reply.Reply.TheVariants.{Committed}
 use Rattle.tdb_serve.specs.declared.script_end.Stop.{Stop}
 use Rattle.tdb_serve.specs.declared.script_end.Stop.TheVariants as stops
-use Rattle.tdb_notes.specs.NotesMachine.{LineAnswered, LineUnanswered}
-use Rattle.tdb_notes.specs.Script.{Answer, IsCommitAnswer, IsRefusedBy, ScriptState, changes_of, closed, refusal_reply, replied, tx}
+use Rattle.tdb_notes.specs.NotesMachine.{IsAt, LineAnswered, LineUnanswered}
+use Rattle.tdb_notes.specs.Script.{Answer, IsAnswer, IsAnswerToCommit, IsBegunBy, IsCommitAnswer, IsOneCommit, IsRefusedBy, ScriptState}
+use Rattle.tdb_notes.specs.Script.{changes_of, closed, refusal_reply, replied, tx}
 use Rattle.tdb_notes.specs.Script as script
-use Rattle.tdb_notes.specs.SessionState.{notes_of, numbered, transaction_in, transaction_of}
+use Rattle.tdb_notes.specs.SessionState.{IsSessionAt, notes_of, numbered, transaction_in, transaction_of}
 use Rattle.tdb_notes.specs.declared.notes.Notes.{Notes}
 use Rattle.tdb_notes.specs.declared.transaction.Transaction.{Transaction}
 use Rattle.tdb_notes.specs.declared.transaction.NewNote.{NewNote}
@@ -106,119 +107,82 @@ module _ {C T : Type 0} (m : Meanings C) (changes : List Change) (old new : C) (
   allowed_ok x h told s at (Some e) is = ⊎_elim (λ same. absurd (cc same))
       (λ more. ⊎_elim (λ wants. absurd (cc wants)) (λ fails. absurd (cc fails)) more) (h.checked told s at going e is)
 
-module _ {C : Type 0} (m : Meanings C) (old new : C) where
-  -- The answer to a commit of some changes, by their cases.
-  made_answer : (s : ScriptState) (t : script.Transaction) (cs : List Change) (given : Answer) → 1 ≤ length cs
-      → check_commit s.chunks cs ≡ None → m.count old < m.count new
-      → (let answer : Answer = record {
-        reply = Committed (tx t.number);
-        next = record (closed s) { chunks = apply_all (m.count new) s.chunks cs };
-        added = (m.count new, cs) ∷ [];
-      } in given ≡ answer) → IsCommitAnswer m old new s t cs given
-  made_answer s t [] given some allowed greater is = absurd (omega (arith, some))
-  made_answer s t (c ∷ cs) given some allowed greater is = inl (allowed, greater, is)
-
-  refused_answer : (s : ScriptState) (t : script.Transaction) (cs : List Change) (given : Answer) (e : CommitError) → 1 ≤ length cs
-      → IsRefusedBy m new s.chunks cs e → given ≡ replied (refusal_reply e) s
-      → IsCommitAnswer m old new s t cs given
-  refused_answer s t [] given e some by is = absurd (omega (arith, some))
-  refused_answer s t (c ∷ cs) given e some by is = inr (e, by, is)
-
-  -- A transaction that made nothing commits nothing.
-  empty_answer : (s : ScriptState) (t : script.Transaction) (cs : List Change) (given : Answer) → cs ≡ []
-      → given ≡ replied (Committed (tx t.number)) (closed s) → IsCommitAnswer m old new s t cs given
-  empty_answer s t [] given none is = is
-  empty_answer s t (c ∷ cs) given none is = absurd (cc none)
-
--- the transaction of a machine, with the notes that it made
-module _ {C T : Type 0} (m : Meanings C) (old new : Notes C) (number : TxId) (open' : Transaction)
-    (found : numbered old.session.transaction number ≡ Some open')
-    (going : m.is_stopped old.store ≡ false) (changes : List Change) (some : 1 ≤ length changes)
-    (are : changes ≡ changes_of (notes_of open'.notes.items)) where
-  -- it was committed
-  pub committed_line : (x : T) → HasCommitted m changes old.store new.store {T = T} (Ok x)
-      → transaction_in new.session.transaction ≡ None → new.session.next_id ≡ old.session.next_id
-      → LineAnswered m old (commit number.0) (Committed number) new
-  committed_line x h none drawn = (
+-- a line that commits some changes, and what it says of them
+module _ {C T : Type 0} (m : Meanings C) (laws : IsLawful m) (old new : Notes C) (line : LineValue) (reply : Reply)
+    (next : ScriptState → ScriptState)
+    (going : m.is_stopped old.store ≡ false) (changes : List Change)
+    (answers : m.told old.store → (s : ScriptState) → IsAt m old s → (given : Answer)
+    → IsAnswerToCommit m old.store new.store s changes reply (next s) given → IsAnswer m old.store new.store s line given) where
+  -- they were committed
+  pub made_line : (x : T) → HasCommitted m changes old.store new.store {T = T} (Ok x)
+      → ((s : ScriptState) → IsSessionAt old.session s → IsSessionAt new.session (next s)) → LineAnswered m old line reply new
+  made_line x h stands = (
     record {
       added = (m.count new.store, changes) ∷ [];
       runs = h.ok.runs;
       steps = λ known s at.
-          let next : ScriptState = record (closed s) { chunks = apply_all (m.count new.store) s.chunks changes } in
-          let given : Answer = record { reply = Committed number; next = next; added = (m.count new.store, changes) ∷ [] } in
+          let later : ScriptState = record (next s) { chunks = apply_all (m.count new.store) s.chunks changes } in
+          let given : Answer = record { reply = reply; next = later; added = (m.count new.store, changes) ∷ [] } in
           let allowed = allowed_ok m changes old.store new.store going x h known s.chunks at.store (check_commit s.chunks changes) refl in
-          let same = (numbered_some old.session.transaction number open' found).same in
-          let answer : IsCommitAnswer m old.store new.store s (transaction_of open') changes given =
-          made_answer m old.store new.store s (transaction_of open') changes given some allowed h.ok.count
-          (ap (λ (n : ℕ). let other : Answer = record {
-            reply = Committed (tx n);
-            next = next;
-            added = (m.count new.store, changes) ∷
-                [];
-          } in other) (sym same)) in (
-            next,
-            answered_in old.session number open' found s at.session
-                (λ t given. IsCommitAnswer m old.store new.store s t (changes_of t.notes) given) given
-                (subst (λ (cs : List Change). IsCommitAnswer m old.store new.store s (transaction_of open') cs given) are answer),
+          let session = stands s at.session in (
+            later,
+            answers (laws.told_before old.store new.store _ _ h.ok.runs known) s at given (inl (allowed, h.ok.count, refl)),
             record {
               store = h.ok.state known s.chunks at.store;
-              session = record
-                  { next_id = drawn ∙ at.session.next_id; transaction = none };
+              session = record { next_id = session.next_id; transaction = session.transaction };
             },
           );
     },
     h.faults.none (λ is. absurd (cc is)),
   )
 
-  -- it was refused
+  -- they were refused
   pub refused_line : (e : CommitError) → HasCommitted m changes old.store new.store {T = T} (Err e) → new.session ≡ old.session
-      → (reply : Reply) → e ≢ errors.Memory → e ≢ errors.Fault → reply ≡ refusal_reply e
-      → LineAnswered m old (commit number.0) reply new
-  refused_line e h session reply memory fault is =
-      still_line m old new (commit number.0) reply (h.refused fault) session (h.faults.none (λ bad. fault (cc bad)))
-      (λ known s at.
-      answered_in old.session number open' found s at.session
-      (λ t given. IsCommitAnswer m old.store new.store s t (changes_of t.notes) given) (replied reply s)
-      (subst (λ (cs : List Change). IsCommitAnswer m old.store new.store s (transaction_of open') cs (replied reply s)) are
-      (refused_answer m old.store new.store s (transaction_of open') changes (replied reply s) e some
-      (refused_by m changes old.store new.store going e h memory fault known s.chunks at.store)
-      (ap (λ (r : Reply). replied r s) is))))
+      → (said : Reply) → e ≢ errors.Memory → e ≢ errors.Fault → said ≡ refusal_reply e
+      → LineAnswered m old line said new
+  refused_line e h session said memory fault is =
+      still_line m old new line said (h.refused fault) session (h.faults.none (λ bad. fault (cc bad)))
+      (λ known s at. answers (laws.told_before old.store new.store _ _ (h.refused fault).runs known) s at (replied said s)
+      (inr (
+        e,
+        refused_by m changes old.store new.store going e h memory fault known s.chunks at.store,
+        ap (λ (r : Reply). replied r s) is,
+      )))
 
+  pub tried_ok : (result : Result Reply Stop) (e : CommitError) → HasCommitted m changes old.store new.store {T = T} (Err e)
+      → new.session ≡ old.session
+      → IfOk result (λ said. (e ≢ errors.Memory) × (e ≢ errors.Fault) × (said ≡ refusal_reply e))
+      → IfOk result (λ said. LineAnswered m old line said new)
+  tried_ok (Ok said) e h session is = refused_line e h session said is.0 is.1 is.2
+  tried_ok (Err stop) e h session is = tt
+
+-- a commit that has no answer
+module _ {C T : Type 0} (m : Meanings C) (laws : IsLawful m) (old new : Notes C) (line : LineValue)
+    (going : m.is_stopped old.store ≡ false) (changes : List Change)
+    (begins : m.told old.store → (s : ScriptState) → IsAt m old s → (maybe : History) → IsOneCommit m old.store changes maybe
+    → IsBegunBy m old.store s line maybe) where
   -- it was begun and met a fault, or there was no memory for it
   pub stopped_line : (e : CommitError) → HasCommitted m changes old.store new.store {T = T} (Err e) → (stop : Stop)
       → ((e ≡ errors.Memory) × (stop ≡ stops.Memory)) ⊎ ((e ≡ errors.Fault) × (stop ≡ stops.PlatformFault))
-      → LineUnanswered m old (commit number.0) stop new
+      → LineUnanswered m old line stop new
   stopped_line e h stop (inl is) =
       let fine : e ≢ errors.Fault = λ bad. absurd (cc (bad, is.0)) in
-      subst (λ (k : Stop). LineUnanswered m old (commit number.0) k new) (sym is.1)
-      (still_stop m old new (commit number.0) stops.Memory (h.refused fine).runs (h.faults.none (λ bad. fine (cc bad))))
+      subst (λ (k : Stop). LineUnanswered m old line k new) (sym is.1)
+      (still_stop m old new line stops.Memory (h.refused fine).runs (h.faults.none (λ bad. fine (cc bad))))
   stopped_line e h stop (inr is) =
       let begun = h.begun (ap Err is.0) in
-      subst (λ (k : Stop). LineUnanswered m old (commit number.0) k new) (sym is.1) (
+      subst (λ (k : Stop). LineUnanswered m old line k new) (sym is.1) (
         record {
           maybe = (begun.count, changes) ∷ [];
           runs = begun.runs;
-          begun = λ known s at.
-              inr (
-                transaction_of open',
-                state_transaction old.session number open' found s at.session,
-                (numbered_some old.session.transaction number open' found).same,
-                (begun.count, begun.greater, ap (λ (cs : List Change). (begun.count, cs) ∷ []) are),
-              );
+          begun = λ known s at. inr (begins (laws.told_before old.store new.store _ _ begun.runs known) s at _ (begun.count, begun.greater, refl));
         },
         h.faults.rose (ap Err is.0),
       )
 
-  pub tried_ok : (result : Result Reply Stop) (e : CommitError) → HasCommitted m changes old.store new.store {T = T} (Err e)
-      → new.session ≡ old.session
-      → IfOk result (λ reply. (e ≢ errors.Memory) × (e ≢ errors.Fault) × (reply ≡ refusal_reply e))
-      → IfOk result (λ reply. LineAnswered m old (commit number.0) reply new)
-  tried_ok (Ok reply) e h session is = refused_line e h session reply is.0 is.1 is.2
-  tried_ok (Err stop) e h session is = tt
-
   pub tried_err : (result : Result Reply Stop) (e : CommitError) → HasCommitted m changes old.store new.store {T = T} (Err e)
       → IfErr result (λ stop. ((e ≡ errors.Memory) × (stop ≡ stops.Memory)) ⊎ ((e ≡ errors.Fault) × (stop ≡ stops.PlatformFault)))
-      → IfErr result (λ stop. LineUnanswered m old (commit number.0) stop new)
+      → IfErr result (λ stop. LineUnanswered m old line stop new)
   tried_err (Ok reply) e h is = tt
   tried_err (Err stop) e h is = stopped_line e h stop is
 
@@ -228,6 +192,45 @@ module _ {C T : Type 0} (m : Meanings C) (old new : Notes C) (number : TxId) (op
       → OnOk result (m.is_stopped new.store ≡ false)
   tried_goes_on (Ok reply) e h is = h.goes_on (λ bad. is.1 (cc bad)) ∙ going
   tried_goes_on (Err stop) e h is = tt
+
+-- The answer to a commit of some changes is that to a commit of a transaction with some notes.
+commit_answer : {C : Type 0} (m : Meanings C) (old new : C) (s : ScriptState) (t : script.Transaction) (cs : List Change)
+    (given : Answer) → 1 ≤ length cs → IsAnswerToCommit m old new s cs (Committed (tx t.number)) (closed s) given
+    → IsCommitAnswer m old new s t cs given
+commit_answer m old new s t [] given some is = absurd (omega (arith, some))
+commit_answer m old new s t (c ∷ cs) given some is = is
+
+-- the transaction of a machine, with the notes that it made
+module _ {C : Type 0} (m : Meanings C) (old : Notes C) (new : C) (number : TxId) (open' : Transaction)
+    (found : numbered old.session.transaction number ≡ Some open') (changes : List Change)
+    (are : changes ≡ changes_of (notes_of open'.notes.items)) where
+  -- a commit of it is answered by its changes
+  pub commit_answers : 1 ≤ length changes → m.told old.store → (s : ScriptState) → IsAt m old s → (given : Answer)
+      → IsAnswerToCommit m old.store new s changes (Committed number) (closed s) given
+      → IsAnswer m old.store new s (commit number.0) given
+  commit_answers some known s at given is =
+      let same = (numbered_some old.session.transaction number open' found).same in
+      answered_in old.session number open' found s at.session
+      (λ t given. IsCommitAnswer m old.store new s t (changes_of t.notes) given) given
+      (subst (λ (cs : List Change). IsCommitAnswer m old.store new s (transaction_of open') cs given) are
+      (commit_answer m old.store new s (transaction_of open') changes given some
+      (subst (λ (n : ℕ). IsAnswerToCommit m old.store new s changes (Committed (tx n)) (closed s) given) (sym same) is)))
+
+  -- and begins them
+  pub commit_begins : m.told old.store → (s : ScriptState) → IsAt m old s → (maybe : History)
+      → IsOneCommit m old.store changes maybe → IsBegunBy m old.store s (commit number.0) maybe
+  commit_begins known s at maybe is = (
+    transaction_of open',
+    state_transaction old.session number open' found s at.session,
+    (numbered_some old.session.transaction number open' found).same,
+    subst (λ (cs : List Change). IsOneCommit m old.store cs maybe) are is,
+  )
+
+-- A transaction that made nothing commits nothing.
+empty_answer : {C : Type 0} (m : Meanings C) (old new : C) (s : ScriptState) (t : script.Transaction) (cs : List Change) (given : Answer)
+    → cs ≡ [] → given ≡ replied (Committed (tx t.number)) (closed s) → IsCommitAnswer m old new s t cs given
+empty_answer m old new s t [] given none is = is
+empty_answer m old new s t (c ∷ cs) given none is = absurd (cc none)
 
 -- a transaction that made nothing
 pub empty_line : {C : Type 0} (m : Meanings C) → IsLawful m → (old new : Notes C) (number : TxId) (open' : Transaction)

@@ -2,3 +2,4 @@ pub mod Drawn
 pub mod NotesMachine
 pub mod Script
 pub mod SessionState
+pub mod Shown

@@ -1,6 +1,8 @@
 -- The machine in memory, over a store of chunks of any kind.
 use Rattle.std.specs.Prelude.{◌≡◌, ℕ, List}
 use Rattle.tdb_base.specs.Rose.{Rose}
+use Rattle.tdb_base.specs.declared.names.PartId.{PartId}
+use Rattle.tdb_base.specs.declared.names.Rank.{Rank}
 use Rattle.tdb_model.specs.Apply.{History}
 use Rattle.tdb_model.specs.Meanings.{Meanings}
 use Rattle.tdb_script.specs.LineSpelling.{LineValue, IsLine}
@@ -11,7 +13,7 @@ use Rattle.tdb_serve.specs.declared.script_end.ScriptEnd.{ScriptEnd}
 use Rattle.tdb_serve.specs.declared.script_end.ScriptEnd.TheVariants as ends
 use Rattle.tdb_serve.specs.declared.script_end.Stop.{Stop}
 use Rattle.tdb_serve.specs.declared.script_end.Stop.TheVariants.{PlatformFault, Memory}
-use Rattle.tdb_notes.specs.Script.{IsAnswer, IsAnswerTo, IsBegunBy, IsHurt, ScriptState, notes_part, rank_of}
+use Rattle.tdb_notes.specs.Script.{IsAnswer, IsAnswerTo, IsBegunBy, IsHurt, ScriptState}
 use Rattle.tdb_notes.specs.SessionState.{IsSessionAt}
 use Rattle.tdb_notes.specs.declared.notes.Notes.{Notes}
 
@@ -75,8 +77,8 @@ module _ {C : Type 0} (m : Meanings C) where
 
 -- a reply that tells no damage
 abbrev pub IsNotTampered : Reply → Type 0
-IsNotTampered reply = (id : ℕ) → reply ≡ Tampered notes_part (rank_of id) → ⊥
+IsNotTampered reply = (part : PartId) (rank : Rank) → reply ≡ Tampered part rank → ⊥
 
--- between two values of the store no note's chunk was hurt
+-- between two values of the store no chunk was hurt
 abbrev pub IsUnhurt : {C : Type 0} → Meanings C → C → C → Type 0
-IsUnhurt m old new = (id : ℕ) → IsHurt m old new id → ⊥
+IsUnhurt m old new = (part : PartId) (id : ℕ) → IsHurt m old new part id → ⊥

@@ -6,6 +6,7 @@
 #![tactic(auto)]
 
 mod commits;
+mod copies;
 mod fields;
 mod session;
 

@@ -1,6 +1,7 @@
 // What a session answers to the lines of a script, and what they commit, as the definition of sessions says it. It has
 // no code of the crates below, and knows no damage and no store that is full.
 use crate::Change;
+use crate::copies::Copies;
 use std::alloc::{AllocError, Global};
 
 /// The answer to one line.
@@ -14,9 +15,9 @@ pub struct Reply {
 
 // A note, by its id and its text.
 #[derive(Drop)]
-struct Note {
-    id: u64,
-    text: Vec<u8>,
+pub(crate) struct Note {
+    pub(crate) id: u64,
+    pub(crate) text: Vec<u8>,
 }
 
 // The transaction that is open: its number and its notes.
@@ -26,10 +27,12 @@ struct Open {
     notes: Vec<Note>,
 }
 
-/// Where scripts stand, one after another: the notes that are committed, the next id, and the open transaction.
+/// Where scripts stand, one after another: the notes that are committed, the copies of them, the next id, and the open
+/// transaction.
 #[derive(Drop)]
 pub struct Stand {
     notes: Vec<Note>,
+    copies: Copies,
     next_id: u64,
     open: Option<Open>,
 }
@@ -39,6 +42,7 @@ impl Stand {
     pub fn new(alloc: Global) -> Stand {
         Stand {
             notes: Vec::new(alloc),
+            copies: Copies::new(alloc),
             next_id: 1,
             open: None,
         }
@@ -95,7 +99,10 @@ impl Stand {
         if let Some((number, id)) = get_note(line) {
             return self.get(alloc, number, id);
         }
-        plain(alloc, format!(in alloc; "refused unbuilt\n")?)
+        match self.copies.answer(alloc, line, &self.notes)? {
+            Some(reply) => Ok(reply),
+            None => plain(alloc, format!(in alloc; "refused unbuilt\n")?),
+        }
     }
 
     fn is_open(&self, number: u64) -> bool {
@@ -163,10 +170,7 @@ impl Stand {
         for note in open.notes.iter().chain(self.notes.iter()) {
             if note.id == id {
                 let mut text = format!(in alloc; "got {number} {id} note ")?;
-                for byte in &note.text {
-                    text.push(char::from(*byte))?;
-                }
-                text.push('\n')?;
+                push_note(&mut text, note)?;
                 return plain(alloc, text);
             }
         }
@@ -202,8 +206,16 @@ impl Stand {
     }
 }
 
-// A reply that commits nothing.
-fn plain(alloc: Global, text: String) -> Result<Reply, AllocError> {
+/// The text of a note, which ends a reply.
+pub(crate) fn push_note(text: &mut String, note: &Note) -> Result<(), AllocError> {
+    for byte in &note.text {
+        text.push(char::from(*byte))?;
+    }
+    text.push('\n')
+}
+
+/// A reply that commits nothing.
+pub(crate) fn plain(alloc: Global, text: String) -> Result<Reply, AllocError> {
     let changes = Vec::new(alloc);
     Ok(Reply { text, changes })
 }
@@ -239,16 +251,17 @@ fn get_note(line: &[u8]) -> Option<(u64, u64)> {
     let fields = behind(line, b"get ")?;
     let space = fields.iter().position(|byte| *byte == b' ')?;
     let number = transaction(fields.get(..space)?)?;
-    let digits = behind(fields.get(space..)?, b" ")?;
+    let id = object(behind(fields.get(space..)?, b" ")?)?;
+    Some((number, id))
+}
+
+/// The number of an object, up to 262,143 and without a leading zero.
+pub(crate) fn object(digits: &[u8]) -> Option<u64> {
     if digits == b"0".as_slice() {
-        return Some((number, 0));
+        return Some(0);
     }
     let id = positive(digits, 6)?;
-    if id <= 262_143 {
-        Some((number, id))
-    } else {
-        None
-    }
+    if id <= 262_143 { Some(id) } else { None }
 }
 
 // A number from 1 to 4,294,967,295 without a leading zero.
@@ -261,8 +274,8 @@ fn transaction(digits: &[u8]) -> Option<u64> {
     }
 }
 
-// A number above 0 without a leading zero, in so many digits at most.
-fn positive(digits: &[u8], most: usize) -> Option<u64> {
+/// A number above 0 without a leading zero, in so many digits at most.
+pub(crate) fn positive(digits: &[u8], most: usize) -> Option<u64> {
     if digits.is_empty() || digits.len() > most || digits.first() == Some(&b'0') {
         return None;
     }
@@ -278,8 +291,8 @@ fn positive(digits: &[u8], most: usize) -> Option<u64> {
     Some(number)
 }
 
-// What stands behind a word at the front.
-fn behind<'a>(bytes: &'a [u8], word: &[u8]) -> Option<&'a [u8]> {
+/// What stands behind a word at the front.
+pub(crate) fn behind<'a>(bytes: &'a [u8], word: &[u8]) -> Option<&'a [u8]> {
     if bytes.get(..word.len())? == word {
         bytes.get(word.len()..)
     } else {

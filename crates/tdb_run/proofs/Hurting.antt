@@ -1,4 +1,4 @@
--- A reply tells damage only where the chunk of a note was hurt.
+-- A reply tells damage only where a chunk was hurt.
 use Rattle.std.proofs.Common.{◌≡◌, ⊎_elim, ◌==◌, ℕ, Bool, true, false, List, [], ◌∷◌, Option, Some, None, sym, subst, if◌then◌else◌}
 use Rattle.std.specs.Prelude.{nat_le}
 use Rattle.tdb_base.specs.declared.names.PartId.{PartId}
@@ -9,15 +9,18 @@ use Rattle.tdb_model.specs.Meanings.{Meanings}
 use Rattle.tdb_model.specs.declared.change.Change.{Change}
 use Rattle.tdb_model.specs.declared.error.CommitError.{CommitError}
 use Rattle.tdb_model.specs.declared.error.CommitError.TheVariants as refusals
-use Rattle.tdb_script.specs.LineSpelling.{LineValue, abort, begin, commit as commit_line, get as get_line, new_note, quit}
+use Rattle.tdb_script.specs.LineSpelling.{LineValue, abort, begin, commit as commit_line, drop_part, get as get_line, new_note, parts, peek, quit, snapshot}
 use Rattle.tdb_script.specs.declared.reply.Reply.{Reply}
 use Rattle.tdb_script.specs.declared.reply.Reply.TheVariants.{Tampered}
-use Rattle.tdb_notes.specs.Script.{Answer, IsAnswer, IsAnswerIn, IsAnswerTo, IsChunkReply, IsCommitAnswer, IsHurt, IsNoteReply, ScriptState, Transaction, abort_answer, begin_answer, changes_of, in_transaction, new_answer, own_note, refusal_reply}
+use Rattle.tdb_notes.specs.Script.{Answer, IsAnswer, IsAnswerIn, IsAnswerTo, IsAnswerToCommit, IsChunkReply, IsCommitAnswer, IsHurt}
+use Rattle.tdb_notes.specs.Script.{IsNoteReply, IsPartAnswer, IsReadReply, ScriptState, Transaction, abort_answer, begin_answer}
+use Rattle.tdb_notes.specs.Script.{changes_of, closed, drop_changes, in_transaction, new_answer, notes_part, own_note, part_of}
+use Rattle.tdb_notes.specs.Script.{refusal_reply, shown_got, shown_peeked, snapshot_changes}
 
 module _ {C : Type 0} (m : Meanings C) (old new : C) where
-  -- a note's chunk was hurt
+  -- a chunk was hurt
   abbrev pub Hurt : Type 0
-  Hurt = (id : ℕ) × IsHurt m old new id
+  Hurt = (part : PartId) × ((id : ℕ) × IsHurt m old new part id)
 
   -- so it was, where the reply tells damage
   abbrev pub ByHurt : Reply → Type 0
@@ -49,17 +52,24 @@ module _ {C : Type 0} (m : Meanings C) (old new : C) where
   one_of state number answers (Some t) given each is = ⊎_elim (λ one. each t one.1)
       (λ other. subst AnswerByHurt (sym other.1) (λ part rank told. absurd (cc told))) is
 
-  by_chunk : (number id : ℕ) (chunk : Option (List ℕ)) (reply : Reply) → IsChunkReply number id chunk reply → ByHurt reply
-  by_chunk number id None reply is = subst ByHurt (sym is) (λ part rank told. absurd (cc told))
-  by_chunk number id (Some chunk) reply is = ⊎_elim
-      (λ got. subst ByHurt (sym got.2) (λ part rank told. absurd (cc told)))
+  by_chunk : (part : PartId) (id : ℕ) (shown : List ℕ → Reply) → ((text : List ℕ) → ByHurt (shown text)) → (chunk : Option (List ℕ))
+      (reply : Reply) → IsChunkReply part id shown chunk reply → ByHurt reply
+  by_chunk part id shown not None reply is = subst ByHurt (sym is) (λ part rank told. absurd (cc told))
+  by_chunk part id shown not (Some chunk) reply is = ⊎_elim
+      (λ got. subst ByHurt (sym got.2) (not got.0))
       (λ other. subst ByHurt (sym other.1) (λ part rank told. absurd (cc told))) is
+
+  by_read : (state : ScriptState) (part : PartId) (id : ℕ) (shown : List ℕ → Reply) → ((text : List ℕ) → ByHurt (shown text))
+      → (reply : Reply) → IsReadReply m old new state.chunks part id shown reply → ByHurt reply
+  by_read state part id shown not reply is =
+      ⊎_elim (λ chunk. by_chunk part id shown not (chunk_at state.chunks part.0 id) reply chunk)
+      (λ hurt. λ told_part rank told. (part, (id, hurt.0))) is
 
   by_note : (state : ScriptState) (number id : ℕ) (own : Option (List ℕ)) (reply : Reply)
       → IsNoteReply m old new state.chunks number id own reply → ByHurt reply
   by_note state number id (Some text) reply is = subst ByHurt (sym is) (λ part rank told. absurd (cc told))
-  by_note state number id None reply is = ⊎_elim (λ chunk. by_chunk number id (chunk_at state.chunks 1 id) reply chunk)
-      (λ hurt. λ part rank told. (id, hurt.0)) is
+  by_note state number id None reply is =
+      by_read state notes_part id (shown_got number id) (λ text part rank told. absurd (cc told)) reply is
 
   by_refusal : (e : CommitError) → ByHurt (refusal_reply e)
   by_refusal refusals.Stopped part rank is = absurd (cc is)
@@ -77,12 +87,22 @@ module _ {C : Type 0} (m : Meanings C) (old new : C) where
   by_refusal refusals.Memory part rank is = absurd (cc is)
   by_refusal refusals.Fault part rank is = absurd (cc is)
 
+  by_added : (state : ScriptState) (changes : List Change) (said : Reply) (next : ScriptState) (given : Answer) → ByHurt said
+      → IsAnswerToCommit m old new state changes said next given → AnswerByHurt given
+  by_added state changes said next given not is =
+      ⊎_elim (λ done. subst AnswerByHurt (sym done.2) not)
+      (λ refused. subst AnswerByHurt (sym refused.2) (by_refusal refused.0)) is
+
   by_commit : (state : ScriptState) (t : Transaction) (changes : List Change) (given : Answer)
       → IsCommitAnswer m old new state t changes given → AnswerByHurt given
   by_commit state t [] given is = subst AnswerByHurt (sym is) (λ part rank told. absurd (cc told))
   by_commit state t (change ∷ changes) given is =
-      ⊎_elim (λ done. subst AnswerByHurt (sym done.2) (λ part rank told. absurd (cc told)))
-      (λ refused. subst AnswerByHurt (sym refused.2) (by_refusal refused.0)) is
+      by_added state (change ∷ changes) _ (closed state) given (λ part rank told. absurd (cc told)) is
+
+  by_part : (state : ScriptState) (number : ℕ) (fits answers : Type 0) (given : Answer) → (answers → AnswerByHurt given)
+      → IsPartAnswer state number fits answers given → AnswerByHurt given
+  by_part state number fits answers given each is = ⊎_elim (λ fitting. each fitting.1)
+      (λ other. subst AnswerByHurt (sym other.1) (λ part rank told. absurd (cc told))) is
 
   by_line : (state : ScriptState) (line : LineValue) (given : Answer) → IsAnswer m old new state line given → AnswerByHurt given
   by_line state quit given is = subst AnswerByHurt (sym is) (λ part rank told. absurd (cc told))
@@ -96,6 +116,17 @@ module _ {C : Type 0} (m : Meanings C) (old new : C) where
       subst AnswerByHurt (sym is) (inside state number (abort_answer state) state.transaction (λ t part rank told. absurd (cc told)))
   by_line state (commit_line number) given is =
       one_of state number _ state.transaction given (λ t one. by_commit state t (changes_of t.notes) given one) is
+  by_line state (snapshot number) given is =
+      by_part state number _ _ given
+      (λ one. by_added state (snapshot_changes number) _ state given (λ part rank told. absurd (cc told)) one) is
+  by_line state (drop_part number) given is =
+      by_part state number _ _ given
+      (λ one. by_added state (drop_changes number) _ state given (λ part rank told. absurd (cc told)) one) is
+  by_line state (peek number id) given is =
+      by_part state number _ _ given
+      (λ one. subst AnswerByHurt (sym one.2)
+      (by_read state (part_of number) id (shown_peeked number id) (λ text part rank told. absurd (cc told)) one.0 one.1)) is
+  by_line state parts given is = subst AnswerByHurt (sym is.2) (λ part rank told. absurd (cc told))
 
   -- what a line's bytes are answered
   pub by_bytes : (state : ScriptState) (bytes : List ℕ) (given : Answer) → IsAnswerTo m old new state bytes given → ByHurt given.reply

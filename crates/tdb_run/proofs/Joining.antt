@@ -20,7 +20,7 @@ use Rattle.tdb_model.specs.declared.error.CommitError.{CommitError}
 use Rattle.tdb_model.specs.declared.error.CommitError.TheVariants as refusals
 use Rattle.tdb_platform.specs.CrashStates.{CrashStates}
 use Rattle.tdb_platform.specs.Outside.{Anchor, Outside}
-use Rattle.tdb_overlay.specs.Found.{Store, in_trace}
+use Rattle.tdb_overlay.specs.Found.{Store, in_trace, store_under}
 use Rattle.tdb_overlay.specs.Growth.{IsSettled}
 use Rattle.tdb_overlay.specs.Log.{IsLog, IsLogOf}
 use Rattle.tdb_overlay.specs.Reading.{OnlyReads}
@@ -41,7 +41,7 @@ use Rattle.tdb_recover.specs.declared.ahead.Pending.{Pending}
 use Rattle.tdb_recover.specs.declared.error.OpenError.{OpenError}
 use Rattle.tdb_recover.specs.declared.error.OpenError.TheVariants as opens
 use Rattle.tdb_chunk.specs.Attached.{HasAttached}
-use Rattle.tdb_chunk.specs.Formatting.{WritesFirstText, store_under}
+use Rattle.tdb_chunk.specs.Formatting.{WritesFirstText}
 use Rattle.tdb_chunk.specs.Standing.{IsReady, StandsAt}
 use Rattle.tdb_chunk.specs.StoreView.{StoreView, store_in}
 use Rattle.tdb_chunk.specs.declared.store_format.FormatError.{FormatError}

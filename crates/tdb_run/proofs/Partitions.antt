@@ -1,24 +1,27 @@
 -- Each commit of a run leaves partitions 1 and 2 as a run makes them.
-use Rattle.std.proofs.Common.{◌≡◌, ◌⊎◌, inl, inr, ⊎_elim, ◌==◌, ℕ, Bool, true, false, List, [], ◌∷◌, ◌++◌, Option, Some, None, refl, sym, ◌∙◌, ap, subst, append-nil, append_assoc, if◌then◌else◌}
-use Rattle.std.specs.FinMap.{get, insert}
+use Rattle.std.proofs.Common.{◌≡◌, ◌⊎◌, inl, inr, ⊎_elim, ◌==◌, ℕ, ◌≤◌, Bool, cond, true, false, List, [], ◌∷◌, ◌++◌, Option, Some, None, refl, sym, ◌∙◌, ap, subst, append-nil, append_assoc, arith, if◌then◌else◌}
+use Rattle.std.proofs.lemmas.Bool.{eqb-true}
+use Rattle.std.specs.FinMap.{get, insert, remove}
 use Rattle.std.specs.Option.{option_map}
 use Rattle.std.specs.Prelude.{nat_le}
 use Rattle.tdb_base.specs.Trace.{WrittenPiece}
 use Rattle.tdb_base.specs.declared.suite.Suite.{Suite}
-use Rattle.tdb_model.specs.Apply.{History, apply, apply_all, made, replay, state_of, with_chunk, with_partition}
+use Rattle.tdb_model.specs.Apply.{History, apply, apply_all, copied, made, replay, state_of, with_chunk, with_partition}
 use Rattle.tdb_model.specs.Limits.{rank_limit}
 use Rattle.tdb_model.specs.Meanings.{Meanings}
 use Rattle.tdb_model.specs.Opening.{opening_changes}
 use Rattle.tdb_model.specs.State.{Partition, State, no_partitions}
 use Rattle.tdb_model.specs.declared.change.Change.{Change}
-use Rattle.tdb_model.proofs.MapLemmas.{get_inserted}
+use Rattle.tdb_model.proofs.MapLemmas.{get_inserted, get_removed}
 use Rattle.tdb_platform.specs.CrashStates.{CrashStates}
 use Rattle.tdb_platform.specs.Outside.{Anchor, Outside}
-use Rattle.tdb_script.specs.LineSpelling.{LineValue, abort, begin, commit as commit_line, get as get_line, new_note, quit}
+use Rattle.tdb_script.specs.LineSpelling.{LineValue, abort, begin, commit as commit_line, drop_part, get as get_line, new_note, parts, peek, quit, snapshot}
 use Rattle.tdb_script.specs.NoteText.{stored_note_bytes}
 use Rattle.tdb_script.specs.declared.reply.Reply.{Reply}
 use Rattle.tdb_notes.specs.NotesMachine.{Begins, IsAt, IsTold, Runs, Step}
-use Rattle.tdb_notes.specs.Script.{Answer, IsAnswer, IsAnswerIn, IsAnswerTo, IsBegunBy, IsCommitAnswer, ScriptState, Transaction, abort_answer, begin_answer, changes_of, in_transaction, new_answer, script_at, write_of}
+use Rattle.tdb_notes.specs.Script.{Answer, IsAnswer, IsAnswerIn, IsAnswerTo, IsAnswerToCommit, IsBegunBy, IsCommitAnswer, IsPartAnswer}
+use Rattle.tdb_notes.specs.Script.{ScriptState, Transaction, abort_answer, begin_answer, changes_of, drop_changes, in_transaction}
+use Rattle.tdb_notes.specs.Script.{new_answer, script_at, snapshot_changes, write_of}
 use Rattle.tdb_notes.specs.declared.notes.Notes.{Notes}
 use Rattle.tdb_serve.specs.Answering.{Session}
 use Rattle.tdb_serve.specs.Replies.{Conversation}
@@ -45,9 +48,14 @@ KeepsPartitions from before written store history all = HasUserPartitions from.c
     → IsOpened store.secret before → (a : Anchor) (front rest : History) (to : StoreState)
     → front ++ rest ≡ all → IsLog written store a (history ++ front) to → HasUserPartitions to.chunks
 
--- the changes of a commit of a run: it makes the partitions, or writes notes
+-- the change of a line that copies a partition to a number behind 1 and 2, or drops one
+abbrev IsOfPart : List Change → Type 0
+IsOfPart changes = (part : ℕ) × (3 ≤ part) × ((changes ≡ snapshot_changes part) ⊎ (changes ≡ drop_changes part))
+
+-- the changes of a commit of a run: it makes the partitions, or writes notes, or copies or drops one partition
 abbrev IsOfRun : List Change → Type 0
-IsOfRun changes = ((suite : Suite) × (changes ≡ opening_changes suite)) ⊎ ((notes : List (ℕ × List ℕ)) × (changes ≡ changes_of notes))
+IsOfRun changes = ((suite : Suite) × (changes ≡ opening_changes suite))
+    ⊎ ((notes : List (ℕ × List ℕ)) × (changes ≡ changes_of notes)) ⊎ IsOfPart changes
 
 -- commits of a run
 abbrev AreOfRun : History → Type 0
@@ -100,6 +108,47 @@ notes_keep count [] state has = has
 notes_keep count (note ∷ notes) state has =
     notes_keep count notes (apply count state (write_of note)) (write_keeps state note.0 (stored_note_bytes note.1) (get state 1) refl has)
 
+-- what another partition is
+inserted_elsewhere : (state : State) (part : ℕ) (p : Partition) (q : ℕ) → (q ≡ part → ⊥) → get (insert state part p) q ≡ get state q
+inserted_elsewhere state part p q apart = get_inserted state part p q ∙
+    elim (q == part) as (λ (b : Bool). (q == part) ≡ b → cond b (Some p) (get state q) ≡ get state q) [
+      | true ↦ λ at. absurd (apart (eqb-true q part at))
+      | false ↦ λ at. refl
+    ] refl
+
+removed_elsewhere : (state : State) (part q : ℕ) → (q ≡ part → ⊥) → get (remove state part) q ≡ get state q
+removed_elsewhere state part q apart = get_removed state part q ∙
+    elim (q == part) as (λ (b : Bool). (q == part) ≡ b → cond b None (get state q) ≡ get state q) [
+      | true ↦ λ at. absurd (apart (eqb-true q part at))
+      | false ↦ λ at. refl
+    ] refl
+
+-- what holds of partitions 1 and 2 alone
+same_keep : (state later : State) → get later 1 ≡ get state 1 → get later 2 ≡ get state 2 → HasUserPartitions state
+    → HasUserPartitions later
+same_keep state later one two has =
+    ⊎_elim (λ both. inl (subst IsMade (sym one) both.0, subst IsMade (sym two) both.1))
+    (λ none. inr (one ∙ none.0, two ∙ none.1)) has
+
+-- a copy, where there is something to copy
+copy_keeps : (count part : ℕ) → 3 ≤ part → (state : State) (p : Option Partition) → HasUserPartitions state
+    → HasUserPartitions (with_partition state part (option_map (copied count 1) p))
+copy_keeps count part behind state None has = has
+copy_keeps count part behind state (Some p) has =
+    same_keep state (insert state part (copied count 1 p))
+    (inserted_elsewhere state part (copied count 1 p) 1 (λ same. absurd (omega (arith, behind, same))))
+    (inserted_elsewhere state part (copied count 1 p) 2 (λ same. absurd (omega (arith, behind, same)))) has
+
+part_keeps : (count : ℕ) (changes : List Change) → IsOfPart changes → (state : State) → HasUserPartitions state
+    → HasUserPartitions (apply_all count state changes)
+part_keeps count changes (part, behind, inl is) state has =
+    subst (λ (cs : List Change). HasUserPartitions (apply_all count state cs)) (sym is)
+    (copy_keeps count part behind state (get state 1) has)
+part_keeps count changes (part, behind, inr is) state has =
+    subst (λ (cs : List Change). HasUserPartitions (apply_all count state cs)) (sym is)
+    (same_keep state (remove state part) (removed_elsewhere state part 1 (λ same. absurd (omega (arith, behind, same))))
+    (removed_elsewhere state part 2 (λ same. absurd (omega (arith, behind, same)))) has)
+
 replay_keeps : (commits : History) (state : State) → AreOfRun commits → HasUserPartitions state → HasUserPartitions (replay state commits)
 replay_keeps [] state are has = has
 replay_keeps (c ∷ commits) state are has =
@@ -107,8 +156,10 @@ replay_keeps (c ∷ commits) state are has =
     (⊎_elim
     (λ opening. subst (λ (changes : List Change). HasUserPartitions (apply_all c.0 state changes)) (sym opening.1)
     (inl (makes_both opening.0 c.0 state)))
+    (λ other. ⊎_elim
     (λ notes. subst (λ (changes : List Change). HasUserPartitions (apply_all c.0 state changes)) (sym notes.1)
     (notes_keep c.0 notes.0 state has))
+    (λ part. part_keeps c.0 c.1 part state has) other)
     are.0)
 
 replay_both : (state : State) (first later : History) → replay state (first ++ later) ≡ replay (replay state first) later
@@ -133,8 +184,8 @@ pub record CommitsOf (before : List WrittenPiece) (store : Store) (a : Anchor) (
 -- commits of a run behind a history keep its partitions
 behind : (history front rest more : History) → AreOfRun more → front ++ rest ≡ more → HasUserPartitions (state_of history)
     → HasUserPartitions (state_of (history ++ front))
-behind history front rest more are parts has = subst HasUserPartitions (sym (replay_both no_partitions history front))
-    (replay_keeps front (state_of history) (are_first front rest (subst AreOfRun (sym parts) are)) has)
+behind history front rest more are cut has = subst HasUserPartitions (sym (replay_both no_partitions history front))
+    (replay_keeps front (state_of history) (are_first front rest (subst AreOfRun (sym cut) are)) has)
 
 -- A commit that is taken leaves such a state, where each text that was written did.
 taken_keeps : (before : List WrittenPiece) (store : Store) (a : Anchor) (history taken : History) (from mid : StoreState)
@@ -149,23 +200,23 @@ taken_keeps before store a history taken from mid is each =
 -- A first part of commits is empty, or has the first of them.
 fronts : (one : ℕ × List Change) (more front rest : History) → front ++ rest ≡ one ∷ more
     → (front ≡ []) ⊎ ((later : History) × (front ≡ one ∷ later) × (later ++ rest ≡ more))
-fronts one more [] rest parts = inl refl
-fronts one more (x ∷ front) rest parts =
-    let first : x ≡ one = cc parts in
-    let later : front ++ rest ≡ more = cc parts in
+fronts one more [] rest cut = inl refl
+fronts one more (x ∷ front) rest cut =
+    let first : x ≡ one = cc cut in
+    let later : front ++ rest ≡ more = cc cut in
     inr (front, ap (λ (y : ℕ × List Change). y ∷ front) first, later)
 
 -- Commits of a run behind a log keep its partitions, also behind the commit that is taken there.
 pub keeps_partitions : (before after : List WrittenPiece) (store : Store) (a : Anchor) (history all : History) (from : StoreState)
     → IsLog before store a history from → CommitsOf before store a history from all → KeepsPartitions from before after store history all
-keeps_partitions before after store a history all from is are has each b front rest to parts log =
+keeps_partitions before after store a history all from is are has each b front rest to cut log =
     subst HasUserPartitions (sym (state_is after store b (history ++ front) to log)) (by_taken are.takes) where
       at_first : HasUserPartitions (state_of history)
       at_first = subst HasUserPartitions (state_is before store a history from is) has
 
       by_taken : Takes before store a history from are.taken are.mid → HasUserPartitions (state_of (history ++ front))
       by_taken (inr none) = behind history front rest are.more are.of_run
-          (parts ∙ are.parts ∙ ap (λ (h : History). h ++ are.more) none.0) at_first
+          (cut ∙ are.parts ∙ ap (λ (h : History). h ++ are.more) none.0) at_first
       by_taken (inl taken) =
           ⊎_elim
           (λ nothing. subst (λ (h : History). HasUserPartitions (state_of (history ++ h))) (sym nothing)
@@ -177,7 +228,7 @@ keeps_partitions before after store a history all from is are has each b front r
           (subst (λ (h : History). HasUserPartitions (state_of (history ++ h))) taken.one
           (taken_keeps before store a history are.taken from are.mid taken each)))))
           (fronts (taken.commit.count, taken.changes) are.more front rest
-          (parts ∙ are.parts ∙ ap (λ (h : History). h ++ are.more) taken.one))
+          (cut ∙ are.parts ∙ ap (λ (h : History). h ++ are.more) taken.one))
 
 -- the commits of an answer
 abbrev AddsOfRun : Answer → Type 0
@@ -207,7 +258,18 @@ module _ {C : Type 0} (m : Meanings C) where
       → IsCommitAnswer m old new state t (changes_of notes) given → AddsOfRun given
   commit_of_run old new state t [] given is = subst AddsOfRun (sym is) tt
   commit_of_run old new state t (note ∷ notes) given is =
-      ⊎_elim (λ done. subst AddsOfRun (sym done.2) (inr (note ∷ notes, refl), tt)) (λ refused. subst AddsOfRun (sym refused.2) tt) is
+      ⊎_elim (λ done. subst AddsOfRun (sym done.2) (inr (inl (note ∷ notes, refl)), tt)) (λ refused. subst AddsOfRun (sym refused.2) tt) is
+
+  added_of_run : (old new : C) (state : ScriptState) (changes : List Change) (said : Reply) (next : ScriptState) (given : Answer)
+      → IsOfRun changes → IsAnswerToCommit m old new state changes said next given → AddsOfRun given
+  added_of_run old new state changes said next given of_run is =
+      ⊎_elim (λ done. subst AddsOfRun (sym done.2) (of_run, tt)) (λ refused. subst AddsOfRun (sym refused.2) tt) is
+
+  -- a line of a partition
+  part_of_run : (state : ScriptState) (number : ℕ) (fits answers : Type 0) (given : Answer) → (fits → answers → AddsOfRun given)
+      → IsPartAnswer state number fits answers given → AddsOfRun given
+  part_of_run state number fits answers given each is = ⊎_elim (λ fitting. each fitting.0 fitting.1)
+      (λ other. subst AddsOfRun (sym other.1) tt) is
 
   answer_of_run : (old new : C) (state : ScriptState) (line : LineValue) (given : Answer) → IsAnswer m old new state line given
       → AddsOfRun given
@@ -222,6 +284,17 @@ module _ {C : Type 0} (m : Meanings C) where
       subst AddsOfRun (sym is) (inside_of_run state number (abort_answer state) state.transaction (λ t. tt))
   answer_of_run old new state (commit_line number) given is =
       one_of_run state number _ state.transaction given (λ t one. commit_of_run old new state t t.notes given one) is
+  answer_of_run old new state (snapshot number) given is =
+      part_of_run state number _ _ given
+      (λ fits one. added_of_run old new state (snapshot_changes number) _ state given
+      (inr (inr (number, fits.0.first, inl refl))) one) is
+  answer_of_run old new state (drop_part number) given is =
+      part_of_run state number _ _ given
+      (λ fits one. added_of_run old new state (drop_changes number) _ state given
+      (inr (inr (number, fits.0.first, inr refl))) one) is
+  answer_of_run old new state (peek number id) given is =
+      part_of_run state number _ _ given (λ fits one. subst AddsOfRun (sym one.2) tt) is
+  answer_of_run old new state parts given is = subst AddsOfRun (sym is.2) tt
 
   line_of_run : (old new : C) (state : ScriptState) (bytes : List ℕ) (given : Answer) → IsAnswerTo m old new state bytes given
       → AddsOfRun given
@@ -229,7 +302,13 @@ module _ {C : Type 0} (m : Meanings C) where
       ⊎_elim (λ some. answer_of_run old new state some.0 given some.2) (λ none. subst AddsOfRun (sym none.1) tt) is
 
   begun_of_run : (old : C) (state : ScriptState) (line : LineValue) (maybe : History) → IsBegunBy m old state line maybe → AreOfRun maybe
-  begun_of_run old state (commit_line number) maybe is = subst AreOfRun (sym is.3.2) (inr (is.0.notes, refl), tt)
+  begun_of_run old state (commit_line number) maybe is = subst AreOfRun (sym is.3.2) (inr (inl (is.0.notes, refl)), tt)
+  begun_of_run old state (snapshot number) maybe is =
+      subst AreOfRun (sym is.1.2) (inr (inr (number, is.0.0.first, inl refl)), tt)
+  begun_of_run old state (drop_part number) maybe is =
+      subst AreOfRun (sym is.1.2) (inr (inr (number, is.0.0.first, inr refl)), tt)
+  begun_of_run old state (peek number id) maybe is = absurd is
+  begun_of_run old state parts maybe is = absurd is
   begun_of_run old state quit maybe is = absurd is
   begun_of_run old state (begin number) maybe is = absurd is
   begun_of_run old state (new_note number text) maybe is = absurd is

@@ -16,7 +16,7 @@ use Rattle.tdb_model.specs.declared.error.CommitError.{CommitError}
 use Rattle.tdb_model.specs.declared.error.CommitError.TheVariants as refusals
 use Rattle.tdb_platform.specs.CrashStates.{CrashStates}
 use Rattle.tdb_platform.specs.Outside.{Anchor, Outside}
-use Rattle.tdb_overlay.specs.Found.{Finds, Store, in_trace, store_of_text}
+use Rattle.tdb_overlay.specs.Found.{Finds, Store, in_trace, store_of_text, store_under}
 use Rattle.tdb_overlay.specs.Images.{IsIntactIn, IsReliableUnder}
 use Rattle.tdb_overlay.specs.Log.{Adds, IsLog, IsLogOf}
 use Rattle.tdb_overlay.specs.Ran.{RanOn}
@@ -31,7 +31,7 @@ use Rattle.tdb_recover.specs.Premises.{Premises}
 use Rattle.tdb_recover.specs.Settled.{RanSettled}
 use Rattle.tdb_recover.specs.declared.error.OpenError.{OpenError}
 use Rattle.tdb_recover.specs.declared.error.OpenError.TheVariants as opens
-use Rattle.tdb_chunk.specs.Formatting.{WritesFirstText, store_under}
+use Rattle.tdb_chunk.specs.Formatting.{WritesFirstText}
 use Rattle.tdb_chunk.specs.declared.store_format.FormatError.{FormatError}
 use Rattle.tdb_chunk.specs.declared.store_format.FormatError.TheVariants as formats
 use Rattle.tdb_run.specs.Calls.{Calls}

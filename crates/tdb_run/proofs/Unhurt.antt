@@ -4,6 +4,7 @@ use Rattle.std.proofs.lemmas.Option.{same_Some}
 use Rattle.std.specs.FinMap as finmap
 use Rattle.std.specs.List.{AllByRecursion}
 use Rattle.std.specs.Option.{option_and_then, option_map}
+use Rattle.tdb_base.specs.declared.names.PartId.{PartId}
 use Rattle.tdb_base.specs.declared.piece.Damage.{Damage}
 use Rattle.tdb_base.specs.declared.piece.Piece.{Piece}
 use Rattle.tdb_base.specs.declared.piece.Place.{Place}
@@ -210,8 +211,8 @@ module _ {D : Type 0} (outside : D → Outside) (crash_states : D → CrashState
     sound_at : (s : StoreView D) → StoreGoes outside crash_states s new → IsSound old.secret (outside s.platform)
     sound_at s goes = sound_earlier outside crash_states counts numbered (store_in old) s.platform new.platform goes.tells goes.grows sound
 
-    pub unhurt : (id : ℕ) → IsHurt (store_means outside crash_states) old new id → ⊥
-    unhurt id (inl hurt) =
+    pub unhurt : (part : PartId) (id : ℕ) → IsHurt (store_means outside crash_states) old new part id → ⊥
+    unhurt part id (inl hurt) =
         let seen = hurt.1 in
         let m = seen.0 in
         let n = seen.1 in
@@ -221,8 +222,9 @@ module _ {D : Type 0} (outside : D → Outside) (crash_states : D → CrashState
         subst (λ (x : Store). IsReliable outside crash_states x m.platform) (sym seen.2.same)
         (seen.2.reliable (sound_at m then) history last at reliable) in
         unhurt_by_damage m n (history ++ there.0) there.1 there.2
-        (subst (λ (k : List ℕ). IsSound k (outside n.platform)) (sym (secret_in m seen.2)) (sound_at n seen.4)) seen.3 1 id still hurt.0 seen.5
-    unhurt id (inr hurt) =
+        (subst (λ (k : List ℕ). IsSound k (outside n.platform)) (sym (secret_in m seen.2)) (sound_at n seen.4)) seen.3 part.0 id still
+        hurt.0 seen.5
+    unhurt part id (inr hurt) =
         let seen = hurt.1 in
         let m = seen.0 in
         let n = seen.1 in
@@ -267,7 +269,7 @@ module _ {D : Type 0} (outside : D → Outside) (crash_states : D → CrashState
       let secret : is.0.store.secret ≡ begun.store.secret = ap (λ (x : Store). x.secret) then.same in (
         λ part rank told.
             let hurt = by_bytes (store_means outside crash_states) begun.store is.0.store first line _ is.4 part rank told in
-            unhurt begun.store is.0.store mid history end at reliable hurt.0 hurt.1,
+            unhurt begun.store is.0.store mid history end at reliable hurt.0 hurt.1.0 hurt.1.1,
         session_unhurt is.0 is.1 lines replies is.3 now last is.6
             (subst (λ (k : List ℕ). IsSound k (outside now.store.platform)) (sym secret) sound) (history ++ there.0) there.1 there.2
             (subst (λ (x : Store). IsReliable outside crash_states x is.0.store.platform) (sym then.same)
@@ -311,4 +313,4 @@ module _ {D : Type 0} (outside : D → Outside) (crash_states : D → CrashState
         let same : is.2.0 ≡ reply = same_Some is.2.0 reply (sym is.2.1 ∙ next) in
         let step = is.2.2.holds.1 in
         let hurt = by_bytes (store_means outside crash_states) mid.store new.store last is.2.2.line _ step part rank (same ∙ told) in
-        unhurt mid.store new.store sound history end at reliable hurt.0 hurt.1
+        unhurt mid.store new.store sound history end at reliable hurt.0 hurt.1.0 hurt.1.1

@@ -126,7 +126,7 @@ fn agrees(alloc: Global, script: &[u8]) -> Result<bool, Fail> {
 
 #[test]
 fn scripts_are_answered_and_remembered_as_the_reference_says(rt: HostRuntime) -> Result<(), Fail> {
-    let scripts: [&[u8]; 22] = [
+    let scripts: [&[u8]; 24] = [
         b"",
         b"quit",
         b"quit\n",
@@ -149,6 +149,11 @@ fn scripts_are_answered_and_remembered_as_the_reference_says(rt: HostRuntime) ->
         b"begin 7\nnew 7 account ann 5\nnew 7 note 7\ncommit 7\nbegin 8\nnew 8 note 8\ncommit 8\nquit\n",
         b"bye\nend\nusage\nquit\nquit\n",
         b"begin 1\nnew 1 note a\ncommit 1\nbegin 2\nnew 2 note b\ncommit 2\ncommit 1\n",
+        b"begin 1\nnew 1 note a\ncommit 1\nsnapshot 3\nbegin 2\nnew 2 note b\nsnapshot 4\ncommit 2\nsnapshot 5\n\
+          peek 3 1\npeek 3 2\npeek 4 2\npeek 5 2\nparts\ndrop 3\ndrop 3\npeek 3 1\nparts\nsnapshot 3\npeek 3 2\nquit\n",
+        b"snapshot 2\nsnapshot 0\nsnapshot 4096\nsnapshot 4095\nsnapshot 4095\nsnapshot 4294967295\nsnapshot 4294967296\n\
+          snapshot 03\ndrop 1\ndrop 2\ndrop 3\npeek 1 1\npeek 3 1\npeek 4095 1\npeek 4095 0\npeek 4095 262143\n\
+          peek 4095 262144\npeek 4095  1\nparts \nparts 1\nsnapshot 3 \nquit\n",
     ];
     for (row, script) in scripts.iter().enumerate() {
         assert!(rt; agrees(rt.alloc(), script)?, "script {row}");

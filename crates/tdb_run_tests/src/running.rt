@@ -145,9 +145,11 @@ fn words_and_scripts_end_by_their_status_and_line(rt: HostRuntime) -> Result<(),
         ),
         (
             &["start", "plain", "16"],
-            b"begin 1\nget 1 1\nnew 1 note a\nget 1 1\nabort 1\nabort 1\nbegin 1\nget 1 1\nnew 1 note b\ncommit 1\nget 1 2\nbegin 4\nget 4 2\nquit\n",
+            b"begin 1\nget 1 1\nnew 1 note a\nget 1 1\nabort 1\nabort 1\nbegin 1\nget 1 1\nnew 1 note b\ncommit 1\nget 1 2\n\
+              begin 4\nget 4 2\nquit\n",
             DONE,
-            b"begun 1\nrefused no object 1 1\nmade 1 1\ngot 1 1 note a\naborted 1\nrefused no transaction 1\nbegun 1\nrefused no object 1 1\nmade 1 2\ncommitted 1\nrefused no transaction 1\nbegun 4\ngot 4 2 note b\nbye\n",
+            b"begun 1\nrefused no object 1 1\nmade 1 1\ngot 1 1 note a\naborted 1\nrefused no transaction 1\nbegun 1\n\
+              refused no object 1 1\nmade 1 2\ncommitted 1\nrefused no transaction 1\nbegun 4\ngot 4 2 note b\nbye\n",
         ),
     ];
     for (words, script, status, output) in table {
@@ -197,5 +199,21 @@ fn a_store_is_not_made_twice(rt: HostRuntime) -> Result<(), Fail> {
         assert!(rt; end.sink.bytes() == b"already formatted\n".as_slice());
         assert!(rt; end.platform.bytes().is_empty());
     }
+    Ok(())
+}
+
+#[test]
+fn a_snapshot_is_made_and_read_and_dropped(rt: HostRuntime) -> Result<(), Fail> {
+    let alloc = rt.alloc();
+    let mut first = run_over_memory(alloc, &["start", "plain", "16"], SCRIPT, [&[], &[], &[]])?;
+    let anchor = first.platform.anchor()?;
+    let script = b"snapshot 3\nparts\npeek 3 1\ndrop 3\nparts\nquit\n";
+    let mut end = run_on(alloc, &["run"], script, first.platform.bytes(), anchor)?;
+    assert_eq!(rt; end.status, DONE);
+    let replies: &[u8] =
+        b"snapshot 3\nparts 3 1 2 3\npeeked 3 1 note hello\ndropped 3\nparts 2 1 2\nbye\n";
+    assert!(rt; end.sink.bytes() == replies);
+    let (count, _) = end.platform.anchor()?;
+    assert_eq!(rt; count, 5);
     Ok(())
 }

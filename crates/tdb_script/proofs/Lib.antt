@@ -1,3 +1,4 @@
 pub mod Fields
 pub mod LineLaws
 pub mod NoteLaws
+pub mod Spacing

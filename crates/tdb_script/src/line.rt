@@ -1,17 +1,20 @@
 //! The lines of a script.
 ghost use Rattle.std.specs.Prelude.{◌≡◌, ◌==◌, ◌≢◌, [], ◌∷◌, ◌++◌, ℕ, List, All, IfSome, IfNone, codes, decimal, position};
-ghost use Rattle.tdb_script.specs.LineSpelling.{LineValue, IsLine, IsTransaction, IsObject};
+ghost use Rattle.tdb_script.specs.LineSpelling.{LineValue, IsLine, IsTransaction, IsPart, IsObject};
 ghost use Rattle.tdb_script.specs.LineValue.{value_of_line};
 ghost use Rattle.tdb_script.specs.NoteText.{IsNoteText};
 
 use crate::note::is_note_text;
-use tdb_base::{Rank, TxId, read_decimal};
+use tdb_base::{PartId, Rank, TxId, read_decimal};
 
 /// The most bytes that a line has without its line feed.
 pub const MAX_LINE_LENGTH: usize = 4095;
 
 // The greatest number of a transaction.
 const MAX_TRANSACTION: u64 = 4_294_967_295;
+
+// The greatest number that a line gives for a partition. Not each of them is a partition's.
+const MAX_PART: u64 = 4_294_967_295;
 
 // The greatest number of an object.
 const MAX_OBJECT: u64 = 262_143;
@@ -29,6 +32,14 @@ pub enum Line<'a> {
     Commit(TxId),
     /// `abort T` gives up the transaction.
     Abort(TxId),
+    /// `snapshot P` makes the partition of that number a copy of partition 1, as it is committed.
+    Snapshot(PartId),
+    /// `drop P` drops the partition of that number.
+    Drop(PartId),
+    /// `peek P ID` gives the committed object of that number, 0 to 262,143, of a partition.
+    Peek(PartId, Rank),
+    /// `parts` gives the numbers of the partitions.
+    Parts,
     /// `quit` ends the script.
     Quit,
 }
@@ -48,6 +59,9 @@ pub fn read_line(bytes: &[u8]) -> Option<Line<'_>>
     if bytes == b"quit".as_slice() {
         return Some(Line::Quit);
     }
+    if bytes == b"parts".as_slice() {
+        return Some(Line::Parts);
+    }
     if let Some(transaction) = read_command(bytes, b"begin ") {
         return Some(Line::Begin(transaction));
     }
@@ -59,6 +73,15 @@ pub fn read_line(bytes: &[u8]) -> Option<Line<'_>>
     }
     if let Some((transaction, object)) = read_get(bytes) {
         return Some(Line::Get(transaction, object));
+    }
+    if let Some(part) = read_part_command(bytes, b"snapshot ") {
+        return Some(Line::Snapshot(part));
+    }
+    if let Some(part) = read_part_command(bytes, b"drop ") {
+        return Some(Line::Drop(part));
+    }
+    if let Some((part, object)) = read_peek(bytes) {
+        return Some(Line::Peek(part, object));
     }
     let (transaction, text) = read_new(bytes)?;
     Some(Line::New(transaction, text))
@@ -76,6 +99,18 @@ fn read_command(bytes: &[u8], command: &[u8]) -> Option<TxId>
     read_transaction(number)
 }
 
+// The partition of a line that has nothing but a command, its space included, and that number.
+fn read_part_command(bytes: &[u8], command: &[u8]) -> Option<PartId>
+    ensures found { IfSome result
+        (λ part. IsPart part.0
+        × (bytes.now ≡ command.now ++ decimal part.0)) }
+    ensures none { IfNone result ((number : ℕ)
+        → IsPart number → bytes.now ≡ command.now ++ decimal number → ⊥) }
+{
+    let number = bytes.strip_prefix(command)?;
+    read_part(number)
+}
+
 // The transaction whose number a word spells.
 fn read_transaction(word: &[u8]) -> Option<TxId>
     ensures found { IfSome result
@@ -86,6 +121,21 @@ fn read_transaction(word: &[u8]) -> Option<TxId>
     let number = read_decimal(word)?;
     if (1..=MAX_TRANSACTION).contains(&number) {
         Some(TxId(number as u32))
+    } else {
+        None
+    }
+}
+
+// The partition whose number a word spells.
+fn read_part(word: &[u8]) -> Option<PartId>
+    ensures found { IfSome result
+        (λ part. IsPart part.0 × (word.now ≡ decimal part.0)) }
+    ensures none { IfNone result ((number : ℕ)
+        → IsPart number → word.now ≡ decimal number → ⊥) }
+{
+    let number = read_decimal(word)?;
+    if number <= MAX_PART {
+        Some(PartId(number as u32))
     } else {
         None
     }
@@ -120,6 +170,22 @@ fn read_get(bytes: &[u8]) -> Option<(TxId, Rank)>
     let transaction = read_transaction(number)?;
     let object = read_object(word)?;
     Some((transaction, object))
+}
+
+// The partition and the object of a line that peeks at one.
+fn read_peek(bytes: &[u8]) -> Option<(PartId, Rank)>
+    ensures found { IfSome result
+        (λ line. IsPart line.0.0 × IsObject line.1.0
+        × (bytes.now ≡ codes "peek " ++ decimal line.0.0 ++ codes " " ++ decimal line.1.0)) }
+    ensures none { IfNone result ((number object : ℕ)
+        → IsPart number → IsObject object
+        → bytes.now ≡ codes "peek " ++ decimal number ++ codes " " ++ decimal object → ⊥) }
+{
+    let fields = bytes.strip_prefix(b"peek ".as_slice())?;
+    let (number, word) = split_field(fields)?;
+    let part = read_part(number)?;
+    let object = read_object(word)?;
+    Some((part, object))
 }
 
 // The transaction and the text of a line that makes a note.

@@ -1,6 +1,6 @@
 //! The replies to lines.
 ghost use Rattle.std.specs.Prelude.{◌≡◌, OnOk, Some, string_bytes};
-ghost use Rattle.tdb_script.specs.ReplySpelling.{reply_text, reply_spelling};
+ghost use Rattle.tdb_script.specs.ReplySpelling.{reply_text, reply_spelling, spaced};
 
 use crate::note::Note;
 use std::alloc::AllocError;
@@ -20,6 +20,14 @@ pub enum Reply {
     Aborted(TxId),
     /// The transaction is committed.
     Committed(TxId),
+    /// The partition is a copy of partition 1 now.
+    Snapshot(PartId),
+    /// The partition is dropped.
+    Dropped(PartId),
+    /// The committed object of this rank in the partition is this note.
+    Peeked(PartId, Rank, Note),
+    /// These partitions are there, by number.
+    Parts(Vec<PartId>),
     /// The script ends.
     Bye,
     /// The line is none that is built, or it came out of its place. All is as before.
@@ -42,6 +50,9 @@ pub enum Reply {
     RefusedRing,
     /// The count of commits stands at its end.
     RefusedCounter,
+    /// This number can't be a snapshot's or is in use already; or no snapshot has it that could be
+    /// dropped or read.
+    RefusedPartition(PartId),
     /// What was read for the chunk of this rank isn't what was written.
     Tampered(PartId, Rank),
 }
@@ -58,6 +69,12 @@ impl fmt::Display for Reply {
             }
             Reply::Aborted(TxId(transaction)) => write!(f, "aborted {transaction}"),
             Reply::Committed(TxId(transaction)) => write!(f, "committed {transaction}"),
+            Reply::Snapshot(PartId(part)) => write!(f, "snapshot {part}"),
+            Reply::Dropped(PartId(part)) => write!(f, "dropped {part}"),
+            Reply::Peeked(PartId(part), Rank(rank), note) => {
+                write!(f, "peeked {part} {rank} note {note}")
+            }
+            Reply::Parts(numbers) => write!(f, "parts {}{}", numbers.len(), Spaced(numbers)),
             Reply::Bye => write!(f, "bye"),
             Reply::RefusedUnbuilt => write!(f, "refused unbuilt"),
             Reply::RefusedNoTransaction(TxId(transaction)) => {
@@ -75,8 +92,24 @@ impl fmt::Display for Reply {
             Reply::RefusedFull(NoRoom { need, free }) => write!(f, "refused full {need} {free}"),
             Reply::RefusedRing => write!(f, "refused ring"),
             Reply::RefusedCounter => write!(f, "refused counter"),
+            Reply::RefusedPartition(PartId(part)) => write!(f, "refused partition {part}"),
             Reply::Tampered(PartId(part), Rank(rank)) => write!(f, "tampered {part} {rank}"),
         }
+    }
+}
+
+// Numbers that are written one after another, each behind a space.
+#[derive(Drop)]
+struct Spaced<'a>(&'a [PartId]);
+
+impl fmt::Display for Spaced<'_> {
+    ghost output = { λ numbers. Some (spaced numbers.0.now) };
+
+    fn fmt<W: fmt::Write>(&self, f: &mut fmt::Formatter<W>) -> fmt::Result {
+        for PartId(part) in self.0 {
+            write!(f, " {part}")?;
+        }
+        Ok(())
     }
 }
 

@@ -1,6 +1,7 @@
 use std::alloc::Global;
+use std::fmt::Write;
 use std::test::Fail;
-use tdb_base::{PartId, Suite};
+use tdb_base::{Bytes, PartId, Rank, Suite};
 use tdb_model::{Change, Chunks, MemoryChunks};
 use tdb_notes::{Notes, serve_notes};
 use tdb_serve::ScriptEnd;
@@ -79,5 +80,68 @@ fn a_commit_takes_1024_changes(rt: HostRuntime) -> Result<(), Fail> {
         assert_eq!(rt; end, ScriptEnd::End);
         assert!(rt; sink.bytes().ends_with(last), "{count}");
     }
+    Ok(())
+}
+
+#[test]
+fn a_snapshot_keeps_what_was_committed(rt: HostRuntime) -> Result<(), Fail> {
+    let alloc = rt.alloc();
+    // the transaction that is open sees its own note, and the snapshot doesn't
+    let script: &[u8] =
+        b"begin 1\nnew 1 note hello\ncommit 1\nbegin 2\nnew 2 note two\nsnapshot 3\n\
+        get 2 2\npeek 3 1\npeek 3 2\ncommit 2\npeek 3 2\nsnapshot 4\npeek 4 2\nparts\ndrop 3\npeek 3 1\n\
+        peek 4 1\nparts\nsnapshot 3\npeek 3 2\nquit\n";
+    let replies: &[u8] = b"begun 1\nmade 1 1\ncommitted 1\nbegun 2\nmade 2 2\nsnapshot 3\n\
+        got 2 2 note two\npeeked 3 1 note hello\nrefused no object 3 2\ncommitted 2\nrefused no object 3 2\n\
+        snapshot 4\npeeked 4 2 note two\nparts 3 1 3 4\ndropped 3\nrefused partition 3\n\
+        peeked 4 1 note hello\nparts 2 1 4\nsnapshot 3\npeeked 3 2 note two\nbye\n";
+    let (end, sink, _) = served(alloc, made(alloc)?, script)?;
+    assert_eq!(rt; end, ScriptEnd::Bye);
+    assert_eq!(rt; sink.bytes(), replies);
+    Ok(())
+}
+
+#[test]
+fn lines_of_partitions_take_the_numbers_of_snapshots_alone(rt: HostRuntime) -> Result<(), Fail> {
+    let alloc = rt.alloc();
+    for number in ["0", "1", "2", "4096", "4294967295"] {
+        let mut script = String::new(alloc);
+        for line in ["snapshot", "drop", "peek"] {
+            let object = if line == "peek" { " 1" } else { "" };
+            writeln!(script, "{line} {number}{object}")?;
+        }
+        let mut replies = String::new(alloc);
+        for _ in 0..3 {
+            writeln!(replies, "refused partition {number}")?;
+        }
+        let (_, sink, _) = served(alloc, made(alloc)?, script.as_bytes())?;
+        assert!(rt; sink.bytes() == replies.as_bytes(), "{number}");
+    }
+    let script: &[u8] =
+        b"drop 3\npeek 4095 1\nsnapshot 4095\nsnapshot 4095\ndrop 4095\ndrop 4095\nquit\n";
+    let replies: &[u8] = b"refused partition 3\nrefused partition 4095\nsnapshot 4095\n\
+        refused partition 4095\ndropped 4095\nrefused partition 4095\nbye\n";
+    let (_, sink, _) = served(alloc, made(alloc)?, script)?;
+    assert_eq!(rt; sink.bytes(), replies);
+    Ok(())
+}
+
+#[test]
+fn a_chunk_that_is_no_note_is_told_with_its_partition(rt: HostRuntime) -> Result<(), Fail> {
+    let alloc = rt.alloc();
+    let mut store = made(alloc)?;
+    let make = Change::Make {
+        part: PartId(7),
+        suite: Suite::Plain,
+    };
+    let write = Change::Write {
+        part: PartId(7),
+        rank: Rank(5),
+        bytes: Bytes::from(b"raw".to_vec(alloc)?),
+    };
+    store.commit(alloc, &[make, write])?;
+    let (_, sink, _) = served(alloc, store, b"peek 7 5\npeek 7 6\ndrop 7\nparts\nquit\n")?;
+    let replies: &[u8] = b"refused pickle 7 5\nrefused no object 7 6\ndropped 7\nparts 1 1\nbye\n";
+    assert_eq!(rt; sink.bytes(), replies);
     Ok(())
 }

@@ -1,5 +1,5 @@
 use std::test::Fail;
-use tdb_base::{Rank, TxId};
+use tdb_base::{PartId, Rank, TxId};
 use tdb_script::{Line, read_line};
 
 #[test]
@@ -53,6 +53,47 @@ fn a_line_that_gets_an_object_has_two_numbers(rt: HostRuntime) {
         (b"get 1 2 3", None),
         (b"get 1 2 ", None),
         (b"gets 1 2", None),
+    ];
+    for (bytes, expected) in table.iter() {
+        assert!(rt; read_line(bytes) == *expected, "{bytes:?}");
+    }
+}
+
+#[test]
+fn a_line_of_partitions_has_its_numbers(rt: HostRuntime) {
+    let greatest = PartId(4_294_967_295);
+    let table: [(&[u8], Option<Line<'_>>); 28] = [
+        (b"snapshot 3", Some(Line::Snapshot(PartId(3)))),
+        (b"snapshot 0", Some(Line::Snapshot(PartId(0)))),
+        (b"snapshot 4294967295", Some(Line::Snapshot(greatest))),
+        (b"snapshot 4294967296", None),
+        (b"snapshot 03", None),
+        (b"snapshot 3 ", None),
+        (b"snapshot", None),
+        (b"snapshot 3 4", None),
+        (b"drop 4095", Some(Line::Drop(PartId(4095)))),
+        (b"drop 0", Some(Line::Drop(PartId(0)))),
+        (b"drop 4294967295", Some(Line::Drop(greatest))),
+        (b"drop 4294967296", None),
+        (b"drop ", None),
+        (b"drop -1", None),
+        (b"peek 3 1", Some(Line::Peek(PartId(3), Rank(1)))),
+        (b"peek 0 0", Some(Line::Peek(PartId(0), Rank(0)))),
+        (
+            b"peek 4294967295 262143",
+            Some(Line::Peek(greatest, Rank(262_143))),
+        ),
+        (b"peek 3 262144", None),
+        (b"peek 4294967296 1", None),
+        (b"peek 3 01", None),
+        (b"peek 3", None),
+        (b"peek 3 1 ", None),
+        (b"peek 3  1", None),
+        (b"parts", Some(Line::Parts)),
+        (b"parts ", None),
+        (b"parts 3", None),
+        (b"part", None),
+        (b"PARTS", None),
     ];
     for (bytes, expected) in table.iter() {
         assert!(rt; read_line(bytes) == *expected, "{bytes:?}");

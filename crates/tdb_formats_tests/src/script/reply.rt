@@ -27,6 +27,36 @@ fn replies_are_written_with_their_line_feeds(rt: HostRuntime) -> Result<(), Fail
 }
 
 #[test]
+fn replies_of_partitions_are_written_with_their_numbers(rt: HostRuntime) -> Result<(), Fail> {
+    let alloc = rt.alloc();
+    let note = Note::new(Bytes::from(b"hello".to_vec(alloc)?)).ok_or("no note")?;
+    let three = vec![in alloc; PartId(1), PartId(2), PartId(4095)]?;
+    let table: [(Reply, &[u8]); 8] = [
+        (Reply::Snapshot(PartId(3)), b"snapshot 3\n"),
+        (Reply::Dropped(PartId(4095)), b"dropped 4095\n"),
+        (
+            Reply::Peeked(PartId(3), Rank(1), note),
+            b"peeked 3 1 note hello\n",
+        ),
+        (Reply::Parts(Vec::new(alloc)), b"parts 0\n"),
+        (Reply::Parts(vec![in alloc; PartId(2)]?), b"parts 1 2\n"),
+        (Reply::Parts(three), b"parts 3 1 2 4095\n"),
+        (Reply::RefusedPartition(PartId(0)), b"refused partition 0\n"),
+        (
+            Reply::RefusedPartition(PartId(GREATEST)),
+            b"refused partition 4294967295\n",
+        ),
+    ];
+    // each is put in place of the one before it
+    let mut text = String::new(alloc);
+    for (reply, expected) in table.iter() {
+        write_reply(reply, &mut text)?;
+        assert!(rt; text.as_bytes() == *expected, "{reply}");
+    }
+    Ok(())
+}
+
+#[test]
 fn refusals_are_written_with_their_causes(rt: HostRuntime) -> Result<(), Fail> {
     let unknown = Reply::RefusedNoTransaction(TxId(3));
     let absent = Reply::RefusedNoObject(PartId(1), Rank(0));

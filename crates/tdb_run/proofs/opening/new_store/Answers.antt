@@ -1,5 +1,5 @@
 use Rattle.std.proofs.Common.{◌≢◌, ⊎_elim, [], sym, subst, arith}
-use Rattle.tdb_chunk.specs.Formatting.{store_under}
+use Rattle.tdb_overlay.specs.Found.{store_under}
 use Rattle.tdb_chunk.specs.declared.store_format.FormatError.TheVariants as formats
 use Rattle.tdb_run.specs.Opened.{HasNotBegun}
 use Rattle.tdb_run.specs.Spared.{IsNotDamaged}

@@ -16,3 +16,14 @@ returns-in-Some-read_command-2-clause-unique c = line_value_unique c.args.bytes.
 
 pub returns-in-Some-read_get-clause-unique : goal.returns-in-Some-read_get-clause-unique
 returns-in-Some-read_get-clause-unique c = line_value_unique c.args.bytes.now
+
+pub returns-in-Some-read_part_command-clause-unique :
+    goal.returns-in-Some-read_part_command-clause-unique
+returns-in-Some-read_part_command-clause-unique c = line_value_unique c.args.bytes.now
+
+pub returns-in-Some-read_part_command-2-clause-unique :
+    goal.returns-in-Some-read_part_command-2-clause-unique
+returns-in-Some-read_part_command-2-clause-unique c = line_value_unique c.args.bytes.now
+
+pub returns-in-Some-read_peek-clause-unique : goal.returns-in-Some-read_peek-clause-unique
+returns-in-Some-read_peek-clause-unique c = line_value_unique c.args.bytes.now

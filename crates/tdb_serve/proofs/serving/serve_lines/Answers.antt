@@ -37,6 +37,32 @@ answering-preserved-else-is_last g c =
     c.in-Ok.reply c.in-Ok.ensures.replied c.in-Ok.ensures.ready
     (λ is. absurd (false≢true (sym c.if-is_last.false ∙ c.is_last.ensures.1 is)))
 
+pub answering-preserved-else-is_last-2 : goal.answering-preserved-else-is_last-2
+answering-preserved-else-is_last-2 g c =
+    serves_on g.A.Answers.ready g.A.Answers.answered g.A.Answers.unanswered (g.S.Source.content c.args.source.now)
+    (g.S.Source.content c.answering.source) (g.S.Source.content c.answer_one.new.source) (g.K.Sink.content c.args.sink.now)
+    (g.K.Sink.content c.answering.sink) (g.K.Sink.content c.answer_one.new.sink)
+    c.args.answers.now (record { lines = c.answering.lines; answers = c.answering.answers })
+    (record { lines = c.answer_one.new.lines; answers = c.answer_one.new.answers }) c.answering.invariant c.answer_one.ensures.keeps
+    c.in-Ok.reply c.in-Ok.ensures.replied c.in-Ok.ensures.ready
+    (λ is. absurd (false≢true (sym c.if-is_last.false ∙ c.is_last.ensures.1 is)))
+
+pub answering-smaller-else-is_last-3 : goal.answering-smaller-else-is_last-3
+answering-smaller-else-is_last-3 g c =
+    let next = c.in-Ok.ensures.replied.answered in
+    less_left (g.S.Source.content c.answering.source) (g.S.Source.content c.answer_one.new.source) c.answering.lines
+    c.answer_one.new.lines next.line next.next
+
+pub answering-preserved-else-is_last-3 : goal.answering-preserved-else-is_last-3
+answering-preserved-else-is_last-3 g c =
+    serves_on g.A.Answers.ready g.A.Answers.answered g.A.Answers.unanswered (g.S.Source.content c.args.source.now)
+    (g.S.Source.content c.answering.source) (g.S.Source.content c.answer_one.new.source) (g.K.Sink.content c.args.sink.now)
+    (g.K.Sink.content c.answering.sink) (g.K.Sink.content c.answer_one.new.sink)
+    c.args.answers.now (record { lines = c.answering.lines; answers = c.answering.answers })
+    (record { lines = c.answer_one.new.lines; answers = c.answer_one.new.answers }) c.answering.invariant c.answer_one.ensures.keeps
+    c.in-Ok.reply c.in-Ok.ensures.replied c.in-Ok.ensures.ready
+    (λ is. absurd (false≢true (sym c.if-is_last.false ∙ c.is_last.ensures.1 is)))
+
 pub answering-smaller : goal.answering-smaller
 answering-smaller g c =
     let next = c.in-Ok.ensures.replied.answered in

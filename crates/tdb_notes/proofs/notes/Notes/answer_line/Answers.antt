@@ -70,3 +70,43 @@ pub returns-in-Commit-clause-unanswered : goal.returns-in-Commit-clause-unanswer
 returns-in-Commit-clause-unanswered g c =
     subst (λ (l : Line). IfErr c.commit.result (λ stop. LineUnanswered g.C.Chunks.means c.args.self.now (value_of_line l) stop
     c.commit.new.self)) (sym c.in-Commit.is) c.commit.ensures.unanswered
+
+pub returns-in-Snapshot-clause-answered : goal.returns-in-Snapshot-clause-answered
+returns-in-Snapshot-clause-answered g c =
+    subst (λ (l : Line). IfOk c.snapshot.result (λ reply. LineAnswered g.C.Chunks.means c.args.self.now (value_of_line l) reply
+    c.snapshot.new.self)) (sym c.in-Snapshot.is) c.snapshot.ensures.answered
+
+pub returns-in-Snapshot-clause-unanswered : goal.returns-in-Snapshot-clause-unanswered
+returns-in-Snapshot-clause-unanswered g c =
+    subst (λ (l : Line). IfErr c.snapshot.result (λ stop. LineUnanswered g.C.Chunks.means c.args.self.now (value_of_line l) stop
+    c.snapshot.new.self)) (sym c.in-Snapshot.is) c.snapshot.ensures.unanswered
+
+pub returns-in-Drop-clause-answered : goal.returns-in-Drop-clause-answered
+returns-in-Drop-clause-answered g c =
+    subst (λ (l : Line). IfOk c.drop_part.result (λ reply. LineAnswered g.C.Chunks.means c.args.self.now (value_of_line l) reply
+    c.drop_part.new.self)) (sym c.in-Drop.is) c.drop_part.ensures.answered
+
+pub returns-in-Drop-clause-unanswered : goal.returns-in-Drop-clause-unanswered
+returns-in-Drop-clause-unanswered g c =
+    subst (λ (l : Line). IfErr c.drop_part.result (λ stop. LineUnanswered g.C.Chunks.means c.args.self.now (value_of_line l) stop
+    c.drop_part.new.self)) (sym c.in-Drop.is) c.drop_part.ensures.unanswered
+
+pub returns-in-Peek-clause-answered : goal.returns-in-Peek-clause-answered
+returns-in-Peek-clause-answered g c =
+    subst (λ (l : Line). IfOk c.peek.result (λ reply. LineAnswered g.C.Chunks.means c.args.self.now (value_of_line l) reply
+    c.peek.new.self)) (sym c.in-Peek.is) c.peek.ensures.answered
+
+pub returns-in-Peek-clause-unanswered : goal.returns-in-Peek-clause-unanswered
+returns-in-Peek-clause-unanswered g c =
+    subst (λ (l : Line). IfErr c.peek.result (λ stop. LineUnanswered g.C.Chunks.means c.args.self.now (value_of_line l) stop
+    c.peek.new.self)) (sym c.in-Peek.is) c.peek.ensures.unanswered
+
+pub returns-in-Parts-clause-answered : goal.returns-in-Parts-clause-answered
+returns-in-Parts-clause-answered g c =
+    subst (λ (l : Line). IfOk c.parts.result (λ reply. LineAnswered g.C.Chunks.means c.args.self.now (value_of_line l) reply
+    c.args.self.now)) (sym c.in-Parts.is) c.parts.ensures.answered
+
+pub returns-in-Parts-clause-unanswered : goal.returns-in-Parts-clause-unanswered
+returns-in-Parts-clause-unanswered g c =
+    subst (λ (l : Line). IfErr c.parts.result (λ stop. LineUnanswered g.C.Chunks.means c.args.self.now (value_of_line l) stop
+    c.args.self.now)) (sym c.in-Parts.is) c.parts.ensures.unanswered

@@ -2,12 +2,12 @@ use Rattle.std.proofs.Common.{◌≡◌, ◌∙◌, List, length, refl, sym, ap}
 use Rattle.std.proofs.lemmas.Bool.{eqb-true}
 use Rattle.tdb_model.proofs.Passing.{stays_itself}
 use Rattle.tdb_script.specs.LineSpelling.{commit}
-use Rattle.tdb_script.specs.declared.reply.Reply.TheVariants.{RefusedNoTransaction}
+use Rattle.tdb_script.specs.declared.reply.Reply.TheVariants.{Committed, RefusedNoTransaction}
 use Rattle.tdb_serve.specs.declared.script_end.Stop.TheVariants.{Memory}
-use Rattle.tdb_notes.specs.Script.{changes_of}
+use Rattle.tdb_notes.specs.Script.{changes_of, closed}
 use Rattle.tdb_notes.specs.SessionState.{notes_of}
 use Rattle.tdb_notes.specs.declared.transaction.NewNote.{NewNote}
-use Rattle.tdb_notes.proofs.Commits.{committed_line, empty_line, tried_err, tried_goes_on, tried_ok}
+use Rattle.tdb_notes.proofs.Commits.{commit_answers, commit_begins, empty_line, made_line, tried_err, tried_goes_on, tried_ok}
 use Rattle.tdb_notes.proofs.Lines.{still_line, still_stop}
 use Rattle.tdb_notes.proofs.NoteWrites.{some_writes}
 use Rattle.tdb_notes.proofs.Transactions.{refused_in}
@@ -35,37 +35,46 @@ returns-in_default-writes-clause-unanswered g c =
 
 pub returns-in-Ok-commit-clause-answered : goal.returns-in-Ok-commit-clause-answered
 returns-in-Ok-commit-clause-answered g c =
+    let m = g.C.Chunks.means in
+    let old = c.args.self.now in
     let notes = c.in-Some.open.now.notes.items in
     let are : c.deref-2.result.now ≡ changes_of (notes_of notes) = c.deref-2.ensures.value ∙ c.in-Ok.ensures.writes
     ∙ ap (λ (ns : List NewNote). changes_of (notes_of ns)) c.deref.ensures.value in
-    committed_line g.C.Chunks.means c.args.self.now _ c.args.number c.in-Some.open.now (sym c.in-Some.ensures) c.requires
-    c.deref-2.result.now (some_writes notes c.deref-2.result.now _ c.in-Some.open.now.notes.ok.0 are
-    (sym c.is_empty.ensures ∙ c.if-is_empty.false)) are _ c.in-Ok-commit.ensures.committed refl refl
+    made_line m g.met.C.Chunks.lawful old _ (commit c.args.number.0) (Committed c.args.number) closed c.requires c.deref-2.result.now
+    (commit_answers m old _ c.args.number c.in-Some.open.now (sym c.in-Some.ensures) c.deref-2.result.now are
+    (some_writes notes c.deref-2.result.now _ c.in-Some.open.now.notes.ok.0 are (sym c.is_empty.ensures ∙ c.if-is_empty.false)))
+    _ c.in-Ok-commit.ensures.committed (λ s at. record { next_id = at.next_id; transaction = refl })
 
 pub returns-clause-answered : goal.returns-clause-answered
 returns-clause-answered g c =
+    let m = g.C.Chunks.means in
+    let old = c.args.self.now in
     let notes = c.in-Some.open.now.notes.items in
     let are : c.deref-2.result.now ≡ changes_of (notes_of notes) = c.deref-2.ensures.value ∙ c.in-Ok.ensures.writes
     ∙ ap (λ (ns : List NewNote). changes_of (notes_of ns)) c.deref.ensures.value in
-    tried_ok g.C.Chunks.means c.args.self.now _ c.args.number c.in-Some.open.now (sym c.in-Some.ensures) c.requires c.deref-2.result.now
-    (some_writes notes c.deref-2.result.now _ c.in-Some.open.now.notes.ok.0 are (sym c.is_empty.ensures ∙ c.if-is_empty.false)) are
+    tried_ok m g.met.C.Chunks.lawful old _ (commit c.args.number.0) (Committed c.args.number) closed c.requires c.deref-2.result.now
+    (commit_answers m old _ c.args.number c.in-Some.open.now (sym c.in-Some.ensures) c.deref-2.result.now are
+    (some_writes notes c.deref-2.result.now _ c.in-Some.open.now.notes.ok.0 are (sym c.is_empty.ensures ∙ c.if-is_empty.false)))
     c.refusal.result c.in-Err.error c.in-Err.ensures.committed refl c.refusal.ensures.reply
 
 pub returns-clause-unanswered : goal.returns-clause-unanswered
 returns-clause-unanswered g c =
+    let m = g.C.Chunks.means in
+    let old = c.args.self.now in
     let notes = c.in-Some.open.now.notes.items in
     let are : c.deref-2.result.now ≡ changes_of (notes_of notes) = c.deref-2.ensures.value ∙ c.in-Ok.ensures.writes
     ∙ ap (λ (ns : List NewNote). changes_of (notes_of ns)) c.deref.ensures.value in
-    tried_err g.C.Chunks.means c.args.self.now _ c.args.number c.in-Some.open.now (sym c.in-Some.ensures) c.requires c.deref-2.result.now
-    (some_writes notes c.deref-2.result.now _ c.in-Some.open.now.notes.ok.0 are (sym c.is_empty.ensures ∙ c.if-is_empty.false)) are
+    tried_err m g.met.C.Chunks.lawful old _ (commit c.args.number.0) c.requires c.deref-2.result.now
+    (commit_begins m old c.commit.new.self c.args.number c.in-Some.open.now (sym c.in-Some.ensures) c.deref-2.result.now are)
     c.refusal.result c.in-Err.error c.in-Err.ensures.committed c.refusal.ensures.stop
 
 pub returns-clause-ready : goal.returns-clause-ready
 returns-clause-ready g c =
+    let m = g.C.Chunks.means in
+    let old = c.args.self.now in
     let notes = c.in-Some.open.now.notes.items in
     let are : c.deref-2.result.now ≡ changes_of (notes_of notes) = c.deref-2.ensures.value ∙ c.in-Ok.ensures.writes
     ∙ ap (λ (ns : List NewNote). changes_of (notes_of ns)) c.deref.ensures.value in
-    tried_goes_on g.C.Chunks.means c.args.self.now (record c.args.self.now { store = c.commit.new.self }) c.args.number
-    c.in-Some.open.now (sym c.in-Some.ensures) c.requires c.deref-2.result.now
-    (some_writes notes c.deref-2.result.now _ c.in-Some.open.now.notes.ok.0 are (sym c.is_empty.ensures ∙ c.if-is_empty.false)) are
+    tried_goes_on m g.met.C.Chunks.lawful old (record old { store = c.commit.new.self }) (commit c.args.number.0) c.requires c.deref-2.result.now
+    (commit_begins m old c.commit.new.self c.args.number c.in-Some.open.now (sym c.in-Some.ensures) c.deref-2.result.now are)
     c.refusal.result c.in-Err.error c.in-Err.ensures.committed c.refusal.ensures.reply
