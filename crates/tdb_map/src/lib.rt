@@ -18,6 +18,7 @@ mod walking;
 
 pub use layer::{Layer, UpdateError};
 pub use looking::lookup;
+pub use nodes::node_of;
 pub use pieces::{PieceError, Pieces};
 pub use tree::{MAP_HEIGHT, Tree};
 pub use updating::update;

@@ -67,8 +67,9 @@ pub(crate) fn fetch_node<P: Pieces>(
     }
 }
 
-/// The node of a root.
-pub(crate) fn node_of<P: Pieces>(
+/// The node of a root, one without entries where there is no root. A node of level 0 has leaves, and the nodes of a level are
+/// numbered in the order of their ranks.
+pub fn node_of<P: Pieces>(
     alloc: Global,
     pieces: &mut P,
     tree: &Tree,

@@ -1,1 +1,4 @@
 pub mod Parents
+pub mod CauseLemmas
+pub mod TellLemmas
+pub mod DifferenceLemmas

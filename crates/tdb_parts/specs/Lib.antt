@@ -1,1 +1,4 @@
 pub mod BareState
+pub mod Chunk
+pub mod Told
+pub mod ChangedCause

@@ -7,5 +7,9 @@
 #![tactic(auto)]
 
 mod checking;
+mod comparing;
+mod leaves;
+mod pair;
 
 pub use checking::check;
+pub use comparing::changed;
