@@ -1,0 +1,12 @@
+pub mod BaseLogs
+pub mod BaseRosters
+pub mod Behind
+pub mod LaidPieces
+pub mod NarrowRoster
+pub mod NewState
+pub mod NewTrees
+pub mod NextStep
+pub mod NoChange
+pub mod Reached
+pub mod TreeTells
+pub mod Unwritten

@@ -1,0 +1,5 @@
+pub mod Behind
+pub mod MapReads
+pub mod NewCheckpoint
+pub mod NewMap
+pub mod NextCheckpoint
