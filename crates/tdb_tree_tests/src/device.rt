@@ -61,7 +61,13 @@ fn outside() -> Piece {
 
 impl Checkpointed {
     /// Seals a record and adds it at the device's end.
-    fn lay(&mut self, alloc: Global, key: &Key, name: &Name, plain: &[u8]) -> Result<Piece, Fail> {
+    pub(crate) fn lay(
+        &mut self,
+        alloc: Global,
+        key: &Key,
+        name: &Name,
+        plain: &[u8],
+    ) -> Result<Piece, Fail> {
         if plain.len() > PLAIN_LIMIT as usize {
             return Err(Fail::from(Failed));
         }
@@ -87,17 +93,30 @@ impl Checkpointed {
         let mut node = node_of(leaves);
         let mut top = None;
         for level in 0..3u32 {
-            let name = Name {
-                kind: NODE + level,
-                suite: Suite::Plain,
-                home,
-                rank: 0,
-            };
-            let piece = self.lay(alloc, key, &name, &spelled_node(alloc, &node)?)?;
+            let piece = self.lay_node(alloc, key, home, level, 0, &node)?;
             node = node_of(&[(0, piece)]);
             top = Some(piece);
         }
         Ok(top.ok_or(Failed)?)
+    }
+
+    /// A node of a level below 3, whose first rank is this.
+    pub(crate) fn lay_node(
+        &mut self,
+        alloc: Global,
+        key: &Key,
+        home: u32,
+        level: u32,
+        first: u32,
+        node: &Node,
+    ) -> Result<Piece, Fail> {
+        let name = Name {
+            kind: NODE.checked_add(level).ok_or(Failed)?,
+            suite: Suite::Plain,
+            home,
+            rank: first,
+        };
+        self.lay(alloc, key, &name, &spelled_node(alloc, node)?)
     }
 
     /// The leader of a partition, under a number.
@@ -161,12 +180,12 @@ fn system_key() -> Key {
 }
 
 /// The key of the records of the first partition, which the commit with the count 2 made.
-fn partition_key() -> Key {
+pub(crate) fn partition_key() -> Key {
     derive(&SECRET, b"TDBpartn", 1, 2)
 }
 
 /// The node with these entries.
-fn node_of(entries: &[(usize, Piece)]) -> Node {
+pub(crate) fn node_of(entries: &[(usize, Piece)]) -> Node {
     let mut node = Node::empty();
     for (at, piece) in entries {
         if let Some(entry) = node.entries.get_mut(*at) {
@@ -185,7 +204,7 @@ fn spelled_node(alloc: Global, node: &Node) -> Result<Vec<u8>, Fail> {
 }
 
 /// A leader as the opening commit made it.
-fn made(home: u32, next: u32, root: Option<Piece>) -> Leader {
+pub(crate) fn made(home: u32, next: u32, root: Option<Piece>) -> Leader {
     Leader {
         suite: Suite::Plain,
         home,
@@ -225,13 +244,34 @@ pub(crate) fn note() -> Piece {
     }
 }
 
-/// The device of the first path behind a checkpoint: nodes of the first partition, leaders, nodes of the roster, table, text.
-pub(crate) fn checkpoint_device(alloc: Global, misfit: Misfit) -> Result<Checkpointed, Fail> {
-    let mut device = Checkpointed {
+/// The device of the first path, with no piece of a checkpoint yet.
+pub(crate) fn first_path_behind(alloc: Global) -> Result<Checkpointed, Fail> {
+    Ok(Checkpointed {
         image: first_path(alloc)?,
         mark: [0; 32],
         pieces: Vec::new(alloc),
-    };
+    })
+}
+
+/// Lays the leaders of the partitions from number 1 on, the roster, the table and the text.
+pub(crate) fn device_of(
+    alloc: Global,
+    device: &mut Checkpointed,
+    leaders: &[Leader],
+) -> Result<(), Fail> {
+    let mut entries = Vec::new(alloc);
+    for (number, leader) in (1u32..).zip(leaders.iter()) {
+        let piece = device.lay_leader(alloc, number, leader)?;
+        entries.push((number as usize, piece))?;
+    }
+    let roster = device.lay_nodes(alloc, &system_key(), 0, &entries)?;
+    let table = device.lay_table(alloc)?;
+    device.put_text(table, roster)
+}
+
+/// The device of the first path behind a checkpoint: nodes of the first partition, leaders, nodes of the roster, table, text.
+pub(crate) fn checkpoint_device(alloc: Global, misfit: Misfit) -> Result<Checkpointed, Fail> {
+    let mut device = first_path_behind(alloc)?;
     let top = device.lay_nodes(alloc, &partition_key(), 1, &[(1, note())])?;
     let root = if misfit == Misfit::RootOutside {
         outside()

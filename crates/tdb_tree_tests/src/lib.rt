@@ -10,3 +10,5 @@ mod altered;
 mod device;
 #[cfg(test)]
 mod reading;
+#[cfg(test)]
+mod shared;
